@@ -1,0 +1,15 @@
+//! Want of memory.
+
+use std::alloc::AllocError;
+use thiserror::Error;
+
+/// No memory was found. It comes only where a call takes memory, and no contract gives it a cause.
+#[derive(Clone, Copy, Debug, PartialEq, Eq, Error)]
+#[error("out of memory")]
+pub struct NoMemory;
+
+impl From<AllocError> for NoMemory {
+    fn from(_: AllocError) -> NoMemory {
+        NoMemory
+    }
+}
