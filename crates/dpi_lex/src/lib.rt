@@ -1,0 +1,18 @@
+//! Tokens of both languages: the words of a text with their places, or the first byte where none
+//! fits (IEEE 1800-2017, clause 5; ISO C, 6.4).
+//!
+//! A place is a number of bytes from 0; lines and columns count from 1, columns in bytes. A text has
+//! at most 1,048,576 bytes. Memory is taken by the calls that are given an allocator alone. What a
+//! text with tokens is stands in `specs/Lexed.antt` and `specs/Words.antt`, where a place lies in
+//! `specs/Place.antt`.
+#![tactic(auto)]
+
+mod fault;
+mod place;
+mod token;
+mod tokens;
+
+pub use fault::LexFault;
+pub use place::line_column_of;
+pub use token::{Kind, Token};
+pub use tokens::Tokens;
