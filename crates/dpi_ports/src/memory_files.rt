@@ -49,10 +49,8 @@ impl MemoryFiles {
         ensures faults { faults_of self.new ≡ faults_of self.old }
         ensures last { last_of self.new ≡ last_of self.old }
     {
-        match self.files.insert(name, content) {
-            Ok(_) => Ok(()),
-            Err(_) => Err(NoMemory),
-        }
+        self.files.insert(name, content)?;
+        Ok(())
     }
 }
 

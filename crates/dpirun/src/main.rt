@@ -1,0 +1,9 @@
+//! The program.
+#![tactic(auto)]
+
+mod command;
+mod form;
+mod literal;
+mod names;
+
+fn main() {}
