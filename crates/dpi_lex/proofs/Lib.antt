@@ -1,2 +1,12 @@
+pub mod Bodies
+pub mod Classes
+pub mod Decimals
+pub mod Longest
+pub mod NumberLemmas
 pub mod PlaceLemmas
+pub mod Reading
+pub mod Runs
+pub mod SingleLemmas
 pub mod Spans
+pub mod TextLemmas
+pub mod WordLemmas

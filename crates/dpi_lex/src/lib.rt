@@ -7,12 +7,27 @@
 //! `specs/Place.antt`.
 #![tactic(auto)]
 
+mod bytes;
 mod fault;
+mod form;
+mod front;
+mod language;
+mod lexer;
+mod numbers;
 mod place;
+mod signs;
+mod texts;
 mod token;
 mod tokens;
+mod words;
 
 pub use fault::LexFault;
+pub use form::{Form, Stretch};
+pub use language::Language;
+pub use lexer::{c_tokens, sv_tokens};
 pub use place::line_column_of;
 pub use token::{Kind, Token};
 pub use tokens::Tokens;
+
+#[cfg(test)]
+mod tests;

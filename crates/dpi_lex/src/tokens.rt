@@ -1,12 +1,15 @@
 //! A text with its tokens.
 
-ghost use Rattle.std.specs.Prelude.{◌≡◌, ◌==◌, ◌<◌, ◌≤◌, length, slice_get, Some, IsSomeAnd};
-ghost use Rattle.dpi_lex.specs.Lexed.{IsInside};
+ghost use Rattle.std.specs.Prelude.{◌≡◌, ◌==◌, ◌<◌, ◌≤◌, length, slice_get, Some, IsSomeAnd, IfOk, IfErr};
+ghost use Rattle.dpi_lex.specs.Lexed.{IsText, AreSpans, IsInside};
+ghost use Rattle.dpi_lex.specs.declared.fault.LexFault.TheVariants.{NoMemory};
 ghost use Rattle.dpi_lex.specs.Words.{words_of, place_of};
 ghost use Rattle.dpi_lex.specs.Place.{line_of, column_of};
 
+use crate::fault::LexFault;
 use crate::place::line_column_of;
 use crate::token::Token;
+use std::alloc::Global;
 use std::marker::Model;
 
 /// A text and its tokens, which rise from its beginning to its end and share no byte.
@@ -28,6 +31,17 @@ impl Model for Tokens {
 }
 
 impl Tokens {
+    /// A copy of the text, with tokens that are its own.
+    pub(crate) fn new(alloc: Global, text: &[u8], tokens: Vec<Token>) -> Result<Tokens, LexFault>
+        requires text { IsText text.now }
+        requires tokens { AreSpans 0 (length text.now) tokens.items }
+        ensures ok { IfOk result (λ t. t ≡ record { text = text.now; tokens = tokens.items }) }
+        ensures err { IfErr result (λ fault. fault ≡ NoMemory) }
+    {
+        let text = Vec::from_slice(alloc, text).map_err(|_| LexFault::NoMemory)?;
+        Ok(Tokens { text, tokens })
+    }
+
     /// How many tokens the text has.
     pub fn len(&self) -> u32
         ensures count { result ≡ length self.now.tokens }

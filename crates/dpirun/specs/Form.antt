@@ -1,5 +1,5 @@
 -- Fixed forms of files: a list of words, some of which stand for names and numbers.
-use Rattle.std.specs.Prelude.{ℕ, Bool, true, false, ◌&&◌, ◌||◌, ◌==◌, not, nat_eq, List, [], ◌∷◌, Option, Some, None, slice_get, option_map, is_some, codes, if◌then◌else◌}
+use Rattle.std.specs.Prelude.{ℕ, Bool, true, false, ◌&&◌, ◌||◌, ◌==◌, not, nat_eq, List, [], ◌∷◌, ◌++◌, Option, Some, None, slice_get, option_map, is_some, codes, if◌then◌else◌}
 use Rattle.std.specs.List.{starts_with}
 use Rattle.std.specs.Option.{option_map_or}
 use Rattle.std.specs.Char.{is_ascii_uppercase}
@@ -37,13 +37,15 @@ fits_word form w =
     else if is_number_letter form then is_number w.kind && is_some (value_of w.bytes)
     else bytes_eq w.bytes form
 
+-- what a word of the form leaves open, filled by the file's word
+abbrev pub hole_of : List ℕ → Word → List (List ℕ)
+hole_of form w = if is_name_letter form || is_number_letter form then w.bytes ∷ [] else []
+
 -- the names and numbers of a file of that form, in their order; None where a word doesn't fit
 abbrev pub holes_of : List (List ℕ) → List Word → Option (List (List ℕ))
 holes_of [] [] = Some []
 holes_of (form ∷ forms) (w ∷ ws) =
-    if fits_word form w
-    then (if is_name_letter form || is_number_letter form then option_map (λ more. w.bytes ∷ more) (holes_of forms ws) else holes_of forms ws)
-    else None
+    if fits_word form w then option_map (λ more. hole_of form w ++ more) (holes_of forms ws) else None
 holes_of _ _ = None
 
 -- the bytes of the word of that number, from 0

@@ -1,6 +1,6 @@
 //! Fixed forms of files: a list of words, some of which stand for names and numbers.
 
-ghost use Rattle.std.specs.Prelude.{◌≡◌, map, option_map, IfOk};
+ghost use Rattle.std.specs.Prelude.{◌≡◌, ◌||◌, map, option_map, IfOk};
 ghost use Rattle.dpi_lex.specs.Words.{words_of};
 ghost use Rattle.dpirun.specs.Form.{is_name_letter, is_number_letter, fits_word, bytes_at, holes_of};
 
@@ -22,6 +22,12 @@ fn is_number(word: &str) -> bool
     ensures { result ≡ is_number_letter word.now }
 {
     matches!(word.as_bytes(), [b'N'])
+}
+
+fn is_open(word: &str) -> bool
+    ensures { result ≡ (is_name_letter word.now || is_number_letter word.now) }
+{
+    is_name(word) || is_number(word)
 }
 
 fn fits(word: &str, kind: Kind, bytes: &[u8]) -> bool
@@ -51,11 +57,12 @@ pub fn holes(alloc: Global, form: &[&str], tokens: &Tokens) -> Result<Option<Vec
         return Ok(None);
     }
     let mut found = Vec::new(alloc);
-    for (i, word) in (0..tokens.len()).zip(form) {
+    for (i, word) in form.iter().enumerate() {
+        let i = i as u32;
         if !fits(word, tokens.get(i).kind, tokens.bytes(i)) {
             return Ok(None);
         }
-        if is_name(word) || is_number(word) {
+        if is_open(word) {
             found.push(i)?;
         }
     }
