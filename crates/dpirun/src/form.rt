@@ -1,6 +1,6 @@
 //! Fixed forms of files: a list of words, some of which stand for names and numbers.
 
-ghost use Rattle.std.specs.Prelude.{◌≡◌, ◌||◌, map, option_map, IfOk};
+ghost use Rattle.std.specs.Prelude.{◌≡◌, ◌||◌, map, option_map, length, ◌<◌, All, IfOk, IfSome};
 ghost use Rattle.dpi_lex.specs.Words.{words_of};
 ghost use Rattle.dpirun.specs.Form.{is_name_letter, is_number_letter, fits_word, bytes_at, holes_of};
 
@@ -48,9 +48,12 @@ fn fits(word: &str, kind: Kind, bytes: &[u8]) -> bool
 /// In a form the word `N` stands for a decimal number of at most 4,294,967,295, another single
 /// capital letter for a name that is free, and each other word for itself.
 pub fn holes(alloc: Global, form: &[&str], tokens: &Tokens) -> Result<Option<Vec<u32>>, NoMemory>
-    ensures {
+    ensures open {
         IfOk result (λ found. option_map (λ v. map (bytes_at (words_of tokens.now)) v.items) found
         ≡ holes_of (map (λ word. word.now) form.now) (words_of tokens.now))
+    }
+    ensures inside {
+        IfOk result (λ found. IfSome found (λ v. All (λ i. i < length tokens.now.tokens) v.items))
     }
 {
     if tokens.len() as usize != form.len() {

@@ -5,5 +5,6 @@ mod command;
 mod form;
 mod literal;
 mod names;
+mod pair;
 
 fn main() {}

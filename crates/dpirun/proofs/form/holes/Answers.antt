@@ -1,25 +1,26 @@
-use Rattle.std.proofs.Common.{◌≡◌, ◌≤◌, ◌<◌, ◌∙◌, ◌++◌, ℕ, List, [], Some, Bor, length, get_or, map, slice_get, ap, subst, sym, true, option_map, drop, suc, add-one, ◌+◌, ◌∷◌, arith}
+use Rattle.std.proofs.Common.{◌≡◌, ◌≤◌, ◌<◌, ◌∙◌, ◌++◌, ℕ, List, [], Some, Bor, All, length, get_or, map, slice_get, ap, subst, sym, true, option_map, drop, suc, add-one, ◌+◌, ◌∷◌, arith}
 use Rattle.std.proofs.lemmas.List.{length-map}
+use Rattle.std.proofs.lemmas.List.Elements.{All-push}
 use Rattle.dpi_lex.specs.Words.{Word, word_of, words_of}
 use Rattle.dpirun.specs.Form.{bytes_at, hole_of, holes_of}
 use Rattle.dpirun.proofs.Holes.{holes_of-lengths, holes_of-next, holes_of-stops, holes_of-whole, word_is, text_at, found_more, found_same}
 use Rattle.dpirun.proofs.form.holes.Goals as goal
 use Rattle.dpirun.proofs.form.holes.Goals.{then-is_open+in_ok-push, else-is_open}
 
-pub returns-then-len-form : goal.returns-then-len-form
-returns-then-len-form c =
+pub returns-then-len-form-clause-open : goal.returns-then-len-form-clause-open
+returns-then-len-form-clause-open c =
     let words : length (words_of c.args.tokens.now) ≡ length c.args.tokens.now.tokens = simp length-map in
     let forms : length (map (λ word. word.now) c.args.form.now) ≡ length c.args.form.now = simp length-map in
     sym (holes_of-lengths _ _ (λ e. c.if-len-form.true (c.len.ensures.count ∙ sym words ∙ sym e ∙ forms)))
 
-pub returns-then-not-fits : goal.returns-then-not-fits
-returns-then-not-fits c =
+pub returns-then-not-fits-clause-open : goal.returns-then-not-fits-clause-open
+returns-then-not-fits-clause-open c =
     let i : ℕ = c.loop-i.i in
     let none : Bor (List ℕ) = record { ref_ptr = (0, 0); now = [] } in
     let w : Word = record { kind = c.get.result.kind; bytes = c.bytes.result.now } in
     sym (holes_of-stops (map (λ word. word.now) c.args.form.now) (words_of c.args.tokens.now) i (get_or c.args.form.now i none).now w
       _ (text_at c.args.form.now i none c.loop-i-test.true) (word_is _ _ _ c.get.ensures.kind c.bytes.ensures.bytes)
-      (sym c.fits.ensures ∙ c.if-not-fits.true) c.loop-i.invariant)
+      (sym c.fits.ensures ∙ c.if-not-fits.true) c.loop-i.invariant.read)
 
 pub loop-i-preserved : goal.loop-i-preserved
 loop-i-preserved c =
@@ -31,7 +32,7 @@ loop-i-preserved c =
     let form : List ℕ = (get_or c.args.form.now i none).now in
     let is : slice_get ws i ≡ Some w = word_is _ _ _ c.get.ensures.kind c.bytes.ensures.bytes in
     let next = holes_of-next forms ws i form w _ (text_at c.args.form.now i none c.loop-i-test.true) is
-      (sym c.fits.ensures ∙ c.if-not-fits.false) c.loop-i.invariant in
+      (sym c.fits.ensures ∙ c.if-not-fits.false) c.loop-i.invariant.read in
     let same : map (bytes_at ws) c.if-is_open.found.items ≡ map (bytes_at ws) c.loop-i.found.items ++ hole_of form w =
         elim c.if-is_open.branch [
           then-is_open+in_ok-push v ↦
@@ -43,12 +44,20 @@ loop-i-preserved c =
         ] in
     let P : List (List ℕ) → Type 0 =
         λ found. holes_of forms ws ≡ option_map (λ more. found ++ more) (holes_of (drop (suc i) forms) (drop (suc i) ws)) in
-    rw add-one (subst P (sym same) next)
+    let inside : All (λ k. k < length c.args.tokens.now.tokens) c.if-is_open.found.items =
+        elim c.if-is_open.branch [
+          then-is_open+in_ok-push v ↦
+            subst (λ (f : List ℕ). All (λ k. k < length c.args.tokens.now.tokens) f)
+            (sym (ap (λ f. f.items) v.found-is ∙ v.in_ok-push.ensures.items))
+            (All-push (λ k. k < length c.args.tokens.now.tokens) c.loop-i.found.items i c.loop-i.invariant.inside (omega arith))
+        | else-is_open v ↦ subst (λ (f : List ℕ). All (λ k. k < length c.args.tokens.now.tokens) f) (sym (ap (λ f. f.items) v.found-is)) c.loop-i.invariant.inside
+        ] in
+    record { read = rw add-one (subst P (sym same) next); inside = inside }
 
-pub returns : goal.returns
-returns c =
+pub returns-clause-open : goal.returns-clause-open
+returns-clause-open c =
     let ws = words_of c.args.tokens.now in
     let forms : List (List ℕ) = map (λ word. word.now) c.args.form.now in
     let words_end : length ws ≤ c.loop-i.i = simp length-map (omega arith) in
     let forms_end : length forms ≤ c.loop-i.i = simp length-map (omega arith) in
-    sym (holes_of-whole forms ws c.loop-i.i _ forms_end words_end c.loop-i.invariant)
+    sym (holes_of-whole forms ws c.loop-i.i _ forms_end words_end c.loop-i.invariant.read)
