@@ -1,0 +1,4 @@
+pub mod Range
+pub mod Leaf
+pub mod Dims
+pub mod Shape
