@@ -1,5 +1,9 @@
+pub mod Answer
 pub mod Command
+pub mod Ends
 pub mod Form
 pub mod Literal
 pub mod Names
 pub mod Pair
+pub mod Refusals
+pub mod Shown

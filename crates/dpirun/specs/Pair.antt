@@ -24,9 +24,9 @@ pub record CallOf : Type 0 where
   pub left : ℕ
   pub right : ℕ
 
--- a call whose function is named by a word of the file
-abbrev pub call_in : List Word → Call → CallOf
-call_in ws c = record { function = bytes_at ws c.function; left = c.left; right = c.right }
+-- a call as the program keeps it
+abbrev pub call_shown : Call → CallOf
+call_shown c = record { function = c.function.items; left = c.left; right = c.right }
 
 -- a call with these numbers
 abbrev pub with_numbers : List ℕ → Option ℕ → Option ℕ → Option CallOf
@@ -64,10 +64,10 @@ abbrev pub body_of : List ℕ → List Word → Option Body
 body_of function ws = option_and_then (body_from function) (holes_of c_form ws)
 
 -- what a parameter gets: the 32-bit signed value of its actual
-abbrev pub argument : Call → Parameter → ℤ
-argument call First = cast_signed w32 call.left
-argument call Second = cast_signed w32 call.right
+abbrev pub argument : ℕ → ℕ → Parameter → ℤ
+argument left right First = cast_signed w32 left
+argument left right Second = cast_signed w32 right
 
--- what the function returns
-abbrev pub sum_of : Call → Body → ℤ
-sum_of call body = argument call body.left +ℤ argument call body.right
+-- what the function returns to a call with these actuals
+abbrev pub sum_of : ℕ → ℕ → Body → ℤ
+sum_of left right body = argument left right body.left +ℤ argument left right body.right

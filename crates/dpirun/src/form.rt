@@ -1,6 +1,6 @@
 //! Fixed forms of files: a list of words, some of which stand for names and numbers.
 
-ghost use Rattle.std.specs.Prelude.{◌≡◌, ◌||◌, map, option_map, length, ◌<◌, All, IfOk, IfSome};
+ghost use Rattle.std.specs.Prelude.{◌≡◌, ◌||◌, map, option_map, length, ◌<◌, All, IfOk, IfSome, IsSome};
 ghost use Rattle.dpi_lex.specs.Words.{words_of};
 ghost use Rattle.dpirun.specs.Form.{is_name_letter, is_number_letter, fits_word, bytes_at, holes_of};
 
@@ -55,6 +55,7 @@ pub fn holes(alloc: Global, form: &[&str], tokens: &Tokens) -> Result<Option<Vec
     ensures inside {
         IfOk result (λ found. IfSome found (λ v. All (λ i. i < length tokens.now.tokens) v.items))
     }
+    ensures whole { IfOk result (λ found. IsSome found → length tokens.now.tokens ≡ length form.now) }
 {
     if tokens.len() as usize != form.len() {
         return Ok(None);

@@ -5,6 +5,8 @@ mod command;
 mod form;
 mod literal;
 mod names;
+mod outcome;
 mod pair;
+mod reading;
 
 fn main() {}

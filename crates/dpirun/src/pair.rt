@@ -1,12 +1,10 @@
 //! The pair of files that the program runs: one import that adds.
 
-ghost use Rattle.std.specs.Prelude.{◌≡◌, ◌<◌, ◌+ℤ◌, option_map, map, length, All, IfOk, IfSome};
-ghost use Rattle.std.specs.Option.{SomeIff};
-ghost use Rattle.std.specs.Prelude.{FitsSigned};
-ghost use Rattle.std.specs.Int.{w32};
+ghost use Rattle.std.specs.Prelude.{◌≡◌, ◌<◌, option_map, map, length, All, IfOk, IfSome, IsSome};
 ghost use Rattle.dpi_lex.specs.Words.{words_of};
 ghost use Rattle.dpirun.specs.Form.{bytes_at};
-ghost use Rattle.dpirun.specs.Pair.{call_of, call_from, call_in, body_of, body_from, parameter_of, argument, sum_of};
+ghost use Rattle.dpirun.specs.Pair.{call_of, call_from, call_shown, body_of, body_from, parameter_of, argument, sum_of};
+ghost use Rattle.dpirun.specs.Answer.{held_by_int};
 
 use crate::form::holes;
 use crate::literal::value;
@@ -30,9 +28,10 @@ pub const C_FORM: [&str; 16] = [
 pub const PLUS: u32 = 12;
 
 /// The call in the SystemVerilog file.
+#[derive(Debug, Drop)]
 pub struct Call {
-    /// The number of the token that names the called function.
-    pub function: u32,
+    /// The name of the called function.
+    pub function: Vec<u8>,
     /// The first actual's digits as a number.
     pub left: u32,
     /// The second actual's digits as a number.
@@ -59,36 +58,41 @@ pub struct Body {
 
 impl Call {
     // the call of these names and numbers
-    fn from(tokens: &Tokens, open: &[u32]) -> Option<Call>
+    fn from(alloc: Global, tokens: &Tokens, open: &[u32]) -> Result<Option<Call>, NoMemory>
         requires { All (λ i. i < length tokens.now.tokens) open.now }
         ensures {
-            option_map (call_in (words_of tokens.now)) result
-            ≡ call_from (map (bytes_at (words_of tokens.now)) open.now)
+            IfOk result (λ found. option_map call_shown found
+            ≡ call_from (map (bytes_at (words_of tokens.now)) open.now))
         }
     {
         let [_, function, first, second, called, left, right] = open else {
-            return None;
+            return Ok(None);
         };
         let same = tokens.bytes(*function) == tokens.bytes(*called);
         let distinct = tokens.bytes(*first) != tokens.bytes(*second);
         if !(same & distinct) {
-            return None;
+            return Ok(None);
         }
-        Some(Call {
-            function: *function,
-            left: value(tokens.bytes(*left))?,
-            right: value(tokens.bytes(*right))?,
-        })
+        let Some(left) = value(tokens.bytes(*left)) else {
+            return Ok(None);
+        };
+        let Some(right) = value(tokens.bytes(*right)) else {
+            return Ok(None);
+        };
+        let function = Vec::from_slice(alloc, tokens.bytes(*function))?;
+        Ok(Some(Call {
+            function,
+            left,
+            right,
+        }))
     }
 
     /// The call of a SystemVerilog file, or None where the file has another form.
     pub fn of(alloc: Global, tokens: &Tokens) -> Result<Option<Call>, NoMemory>
-        ensures {
-            IfOk result (λ found. option_map (call_in (words_of tokens.now)) found ≡ call_of (words_of tokens.now))
-        }
+        ensures { IfOk result (λ found. option_map call_shown found ≡ call_of (words_of tokens.now)) }
     {
         match holes(alloc, &SV_FORM, tokens)? {
-            Some(open) => Ok(Call::from(tokens, &open)),
+            Some(open) => Call::from(alloc, tokens, &open),
             None => Ok(None),
         }
     }
@@ -118,7 +122,8 @@ impl Body {
 
     /// The body of that function in a C file, or None where the file has another form.
     pub fn of(alloc: Global, tokens: &Tokens, function: &[u8]) -> Result<Option<Body>, NoMemory>
-        ensures { IfOk result (λ found. found ≡ body_of function.now (words_of tokens.now)) }
+        ensures found { IfOk result (λ found. found ≡ body_of function.now (words_of tokens.now)) }
+        ensures plus { IfOk result (λ found. IsSome found → PLUS < length tokens.now.tokens) }
     {
         match holes(alloc, &C_FORM, tokens)? {
             Some(open) => Ok(Body::from(tokens, &open, function)),
@@ -129,7 +134,7 @@ impl Body {
     /// What the function returns to the call: the sum of the arguments, which are the actuals'
     /// 32-bit signed values, or None where int can't hold it (ISO C 6.5).
     pub fn sum(self, call: &Call) -> Option<i32>
-        ensures { SomeIff result (FitsSigned w32 (sum_of call.now self)) (sum_of call.now self) }
+        ensures { result ≡ held_by_int (sum_of call.now.left call.now.right self) }
     {
         self.left.argument(call).checked_add(self.right.argument(call))
     }
@@ -150,7 +155,7 @@ impl Parameter {
     }
 
     fn argument(self, call: &Call) -> i32
-        ensures { result ≡ argument call.now self }
+        ensures { result ≡ argument call.now.left call.now.right self }
     {
         match self {
             Parameter::First => call.left.cast_signed(),

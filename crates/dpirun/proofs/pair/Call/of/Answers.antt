@@ -1,8 +1,8 @@
-use Rattle.std.proofs.Common.{◌≡◌, ◌∙◌, ap, sym, List, ℕ, Option, Some, None, map, option_map}
+use Rattle.std.proofs.Common.{◌≡◌, ◌∙◌, ap, sym, List, ℕ, Option, Some, None, map, option_map, subst, IfOk}
 use Rattle.std.specs.Prelude.{option_and_then}
 use Rattle.dpi_lex.specs.Words.{Word, words_of}
 use Rattle.dpirun.specs.Form.{bytes_at, holes_of}
-use Rattle.dpirun.specs.Pair.{sv_form, call_from}
+use Rattle.dpirun.specs.Pair.{CallOf, sv_form, call_shown, call_from}
 use Rattle.dpirun.proofs.pair.Call.of.Goals as goal
 
 pub returns-in-Some : goal.returns-in-Some
@@ -12,7 +12,8 @@ returns-in-Some c =
     let filled : holes_of sv_form ws ≡ Some (map (bytes_at ws) c.deref.result.now) =
         sym c.in_ok-open.ensures.open ∙ ap (option_map (λ v. map (bytes_at ws) v.items)) c.in-Some.is
         ∙ ap (λ items. Some (map (bytes_at ws) items)) (sym c.deref.ensures.value) in
-    c.from.ensures ∙ sym (ap (option_and_then (call_from)) filled)
+    let P : Option CallOf → Type 0 = λ o. IfOk c.from.result (λ found. option_map call_shown found ≡ o) in
+    subst P (sym (ap (option_and_then call_from) filled)) c.from.ensures
 
 pub returns-in-None : goal.returns-in-None
 unfolding sv_form
@@ -20,4 +21,4 @@ returns-in-None c =
     let ws : List Word = words_of c.args.tokens.now in
     let unfilled : holes_of sv_form ws ≡ None =
         sym c.in_ok-open.ensures.open ∙ ap (option_map (λ v. map (bytes_at ws) v.items)) c.in-None.is in
-    sym (ap (option_and_then (call_from)) unfilled)
+    sym (ap (option_and_then call_from) unfilled)

@@ -1,0 +1,93 @@
+//! What a run comes to: a status, and the bytes for both sinks.
+
+ghost use Rattle.std.specs.Prelude.{◌≡◌, [], IfOk};
+ghost use Rattle.dpirun.specs.Answer.{bad_words, refused, unread, ran};
+ghost use Rattle.dpirun.specs.Shown.{shown};
+
+use dpi_ports::NoMemory;
+use dpi_text::fault_line;
+use std::alloc::Global;
+
+/// A status, and what the program prints before it ends with it.
+#[derive(Debug, Drop)]
+pub struct Outcome {
+    /// The exit status.
+    pub status: u8,
+    /// The bytes for standard output.
+    pub out: Vec<u8>,
+    /// The bytes for standard error.
+    pub err: Vec<u8>,
+}
+
+/// The sum that the C file makes, and the place of its `+`.
+#[derive(Clone, Copy, Debug)]
+pub struct Sum {
+    /// The sum, or None where int can't hold it.
+    pub value: Option<i32>,
+    /// The line of the `+`, from 1.
+    pub line: u32,
+    /// The column of the `+`, from 1, in bytes.
+    pub column: u32,
+}
+
+impl Outcome {
+    fn failed(alloc: Global, status: u8, err: Vec<u8>) -> Outcome
+        ensures { shown result ≡ record { status = status; out = []; err = err.items } }
+    {
+        Outcome {
+            status,
+            out: Vec::new(alloc),
+            err,
+        }
+    }
+
+    /// Status 2, for words that aren't a line of the command.
+    pub fn bad_words(alloc: Global) -> Result<Outcome, NoMemory>
+        ensures { IfOk result (λ o. shown o ≡ bad_words) }
+    {
+        Ok(Outcome::failed(alloc, 2, Vec::from_slice(alloc, b"dpirun: bad words\n")?))
+    }
+
+    /// Status 1, for a file that is refused as a whole: the fault line stands at its first byte.
+    pub fn refused(alloc: Global, file: &str, code: &[u8]) -> Result<Outcome, NoMemory>
+        ensures { IfOk result (λ o. shown o ≡ refused file.now code.now) }
+    {
+        let mut err = Vec::new(alloc);
+        fault_line(alloc, file.as_bytes(), 1, 1, code, &mut err)?;
+        Ok(Outcome::failed(alloc, 1, err))
+    }
+
+    /// Status 7, for a file that could not be read.
+    pub fn unread(alloc: Global, file: &str) -> Result<Outcome, NoMemory>
+        ensures { IfOk result (λ o. shown o ≡ unread file.now) }
+    {
+        let mut err = Vec::from_slice(alloc, b"dpirun: cannot read ")?;
+        err.extend_from_slice(file.as_bytes())?;
+        err.extend_from_slice(b"\n")?;
+        Ok(Outcome::failed(alloc, 7, err))
+    }
+
+    /// Status 0 with the sum in decimal and a line feed, or status 3 with the trap at the `+` of
+    /// the C file (ISO C 6.5).
+    pub fn of_sum(alloc: Global, file: &str, sum: &Sum) -> Result<Outcome, NoMemory>
+        ensures { IfOk result (λ o. shown o ≡ ran file.now sum.now) }
+    {
+        match sum.value {
+            Some(value) => {
+                let text = format!(in alloc; "{value}\n")?;
+                let out = Vec::from_slice(alloc, text.as_bytes())?;
+                Ok(Outcome {
+                    status: 0,
+                    out,
+                    err: Vec::new(alloc),
+                })
+            }
+            None => {
+                let mut err = Vec::new(alloc);
+                let code = b"trap SignedOverflow";
+                fault_line(alloc, file.as_bytes(), sum.line, sum.column, code, &mut err)?;
+                Ok(Outcome::failed(alloc, 3, err))
+            }
+        }
+    }
+}
