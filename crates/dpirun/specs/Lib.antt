@@ -5,5 +5,6 @@ pub mod Form
 pub mod Literal
 pub mod Names
 pub mod Pair
+pub mod Program
 pub mod Refusals
 pub mod Shown
