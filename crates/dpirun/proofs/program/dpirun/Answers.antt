@@ -1,7 +1,7 @@
 use Rattle.std.proofs.Common.{[]}
 use Rattle.dpirun.specs.Ends.{nothing}
 use Rattle.dpirun.proofs.Sinks.{front_nothing, fronts}
-use Rattle.dpirun.proofs.Words.{due}
+use Rattle.dpirun.proofs.Commands.{due}
 use Rattle.dpirun.proofs.program.dpirun.Goals as goal
 
 pub returns-in-Ok-clause-cut : goal.returns-in-Ok-clause-cut

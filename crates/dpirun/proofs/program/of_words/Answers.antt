@@ -2,7 +2,7 @@ use Rattle.std.proofs.Common.{inl, map, sym}
 use Rattle.std.specs.String.{string_bytes}
 use Rattle.dpirun.specs.Shown.{shown}
 use Rattle.dpirun.proofs.Files.{if_ok}
-use Rattle.dpirun.proofs.Words.{words_end, no_command}
+use Rattle.dpirun.proofs.Commands.{words_end, no_command}
 use Rattle.dpirun.proofs.program.of_words.Goals as goal
 
 pub returns-in-Some-clause-ends : goal.returns-in-Some-clause-ends
