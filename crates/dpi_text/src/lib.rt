@@ -5,7 +5,6 @@
 #![tactic(auto)]
 
 mod lines;
-
 #[cfg(test)]
 mod tests;
 

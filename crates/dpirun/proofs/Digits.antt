@@ -31,7 +31,7 @@ large : (value d : ℕ) → is_ascii_digit d ≡ true
     → (is_ascii_digit d && nat_lt (value * 10 + (d - 48)) 4294967296) ≡ false → 4294967296 ≤ value * 10 + (d - 48)
 large value d is stops =
     let off : nat_lt (value * 10 + (d - 48)) 4294967296 ≡ false =
-        sym (ap (λ t. t && nat_lt (value * 10 + (d - 48)) 4294967296) is) ∙ stops in
+    sym (ap (λ t. t && nat_lt (value * 10 + (d - 48)) 4294967296) is) ∙ stops in
     grind (arith, nat_tests)
 
 -- no value where the digit at a place is none, or passes the limit with those before it
@@ -44,12 +44,19 @@ value_of-stops ds value i inside read all stops =
     let d : ℕ = get_or ds i 0 in
     let front : drop i ds ≡ get_or ds i 0 ∷ drop (suc i) ds = drop-cons ds i 0 inside in
     let digits : list_all is_ascii_digit ds ≡ (is_ascii_digit (get_or ds i 0) && list_all is_ascii_digit (drop (suc i) ds)) =
-        all ∙ ap (list_all is_ascii_digit) front in
+    all ∙ ap (list_all is_ascii_digit) front in
     let whole : digits_value 10 ds ≡ digits_value_after 10 (value * 10 + digit_value (get_or ds i 0)) (drop (suc i) ds) =
-        read ∙ ap (digits_value_after 10 value) front in
-    let by : (b : Bool) → is_ascii_digit (get_or ds i 0) ≡ b → value_of ds ≡ None = elim [ true ↦ λ is. value_of-large ds (omega (arith, whole, digit_value-digit (get_or ds i 0) is,
-          digits_value_after-le (value * 10 + digit_value (get_or ds i 0)) (drop (suc i) ds), large value (get_or ds i 0) is stops))
-        | false ↦ λ is. value_of-other ds (digits ∙ ap (λ t. t && list_all is_ascii_digit (drop (suc i) ds)) is) ] in
+    read ∙ ap (digits_value_after 10 value) front in
+    let by : (b : Bool) → is_ascii_digit (get_or ds i 0) ≡ b → value_of ds ≡ None = elim [
+      | true ↦ λ is. value_of-large ds (omega (
+        arith,
+        whole,
+        digit_value-digit (get_or ds i 0) is,
+        digits_value_after-le (value * 10 + digit_value (get_or ds i 0)) (drop (suc i) ds),
+        large value (get_or ds i 0) is stops,
+      ))
+      | false ↦ λ is. value_of-other ds (digits ∙ ap (λ t. t && list_all is_ascii_digit (drop (suc i) ds)) is)
+    ] in
     by (is_ascii_digit (get_or ds i 0)) refl
 
 -- it has its value where all of it was read

@@ -13,7 +13,7 @@ endings w is_sv is_c =
     let long : 3 ≤ length w = omega (arith, ap length sv, length-drop (length w - 3) w) in
     let at : length w - 3 + 1 ≡ length w - 2 = omega arith in
     let same : drop 1 (codes ".sv") ≡ codes ".c" =
-        ap (drop 1) sv ∙ drop-drop 1 (length w - 3) w ∙ ap (λ n. drop n w) at ∙ sym c in
+    ap (drop 1) sv ∙ drop-drop 1 (length w - 3) w ∙ ap (λ n. drop n w) at ∙ sym c in
     cc
 
 -- the test of a file has its two parts
@@ -24,10 +24,10 @@ parts false b h = cc
 -- so the names of two such files differ
 pub names_differ : (sv c : List ℕ) → is_file_of (codes ".sv") sv ≡ true → is_file_of (codes ".c") c ≡ true → bytes_eq sv c ≡ false
 names_differ sv c is_sv is_c = by (bytes_eq sv c) refl
-    where
-      by : (b : Bool) → bytes_eq sv c ≡ b → bytes_eq sv c ≡ false
-      by false same = same
-      by true same =
-          let one : sv ≡ c = (bytes_eq-Decides sv c).0 same in
-          absurd (endings c
-            (let P : List ℕ → Type 0 = λ w. ends_with nat_eq w (codes ".sv") ≡ true in subst P one (parts _ _ is_sv)) (parts _ _ is_c))
+  where
+    by : (b : Bool) → bytes_eq sv c ≡ b → bytes_eq sv c ≡ false
+    by false same = same
+    by true same =
+        let one : sv ≡ c = (bytes_eq-Decides sv c).0 same in
+        absurd (endings c
+        (let P : List ℕ → Type 0 = λ w. ends_with nat_eq w (codes ".sv") ≡ true in subst P one (parts _ _ is_sv)) (parts _ _ is_c))

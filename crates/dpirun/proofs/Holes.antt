@@ -41,13 +41,13 @@ pub holes_of-next : (forms : List (List ℕ)) (ws : List Word) (i : ℕ) (form :
 holes_of-next forms ws i form w found is_form is_word fits read =
     read
     ∙ ap (option_map (λ more. found ++ more)) (holes_of-drop forms ws i form w is_form is_word
-      ∙ ap (λ b. if b then option_map (λ more. hole_of form w ++ more) (holes_of (drop (suc i) forms) (drop (suc i) ws)) else None) fits)
+    ∙ ap (λ b. if b then option_map (λ more. hole_of form w ++ more) (holes_of (drop (suc i) forms) (drop (suc i) ws)) else None) fits)
     ∙ joined (holes_of (drop (suc i) forms) (drop (suc i) ws))
-    where
-      joined : (o : Option (List (List ℕ)))
-          → option_map (λ more. found ++ more) (option_map (λ more. hole_of form w ++ more) o) ≡ option_map (λ more. (found ++ hole_of form w) ++ more) o
-      joined None = refl
-      joined (Some more) = ap Some (sym (append_assoc found (hole_of form w) more))
+  where
+    joined : (o : Option (List (List ℕ)))
+        → option_map (λ more. found ++ more) (option_map (λ more. hole_of form w ++ more) o) ≡ option_map (λ more. (found ++ hole_of form w) ++ more) o
+    joined None = refl
+    joined (Some more) = ap Some (sym (append_assoc found (hole_of form w) more))
 
 -- and a word that doesn't
 pub holes_of-stops : (forms : List (List ℕ)) (ws : List Word) (i : ℕ) (form : List ℕ) (w : Word) (found : List (List ℕ))
@@ -57,7 +57,7 @@ pub holes_of-stops : (forms : List (List ℕ)) (ws : List Word) (i : ℕ) (form 
 holes_of-stops forms ws i form w found is_form is_word fails read =
     read
     ∙ ap (option_map (λ more. found ++ more)) (holes_of-drop forms ws i form w is_form is_word
-      ∙ ap (λ b. if b then option_map (λ more. hole_of form w ++ more) (holes_of (drop (suc i) forms) (drop (suc i) ws)) else None) fails)
+    ∙ ap (λ b. if b then option_map (λ more. hole_of form w ++ more) (holes_of (drop (suc i) forms) (drop (suc i) ws)) else None) fails)
 
 -- all of it was read
 pub holes_of-whole : (forms : List (List ℕ)) (ws : List Word) (i : ℕ) (found : List (List ℕ))

@@ -11,10 +11,9 @@ use Rattle.dpi_lex.specs.Words.{Word, words_of, place_of}
 use Rattle.dpi_ports.specs.Told.{Contents}
 use Rattle.dpi_text.specs.FaultLine.{fault_line_of}
 use Rattle.dpirun.specs.Command.{FileNames, command_of}
-use Rattle.dpirun.specs.Pair.{CallOf, call_of, body_of, sum_of}
+use Rattle.dpirun.specs.Pair.{CallOf, call_of, body_of, sum_of, plus}
 use Rattle.dpirun.specs.declared.outcome.Sum.{Sum}
 use Rattle.dpirun.specs.declared.pair.Body.{Body}
-use Rattle.dpirun.specs.declared.pair.TheConstants.{PLUS}
 
 -- what a run comes to: its status, and what it prints to both sinks
 pub record Outcome : Type 0 where
@@ -57,8 +56,8 @@ call_in_text text = option_and_then (λ ts. call_of (words_of (record { text = t
 abbrev pub sum_of_body : CallOf → Lexed → Body → Sum
 sum_of_body call l body = record {
   value = held_by_int (sum_of call.left call.right body);
-  line = line_of l.text (place_of l PLUS);
-  column = column_of l.text (place_of l PLUS);
+  line = line_of l.text (place_of l plus);
+  column = column_of l.text (place_of l plus);
 }
 
 -- the sum that the text of a C file makes of a call

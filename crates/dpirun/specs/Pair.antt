@@ -1,22 +1,33 @@
 -- The pair of files that the program runs: one import that adds.
-use Rattle.std.specs.Prelude.{ℕ, ℤ, ◌+ℤ◌, Bool, ◌&&◌, not, List, [], ◌∷◌, Option, Some, None, map, option_map, option_and_then, if◌then◌else◌}
+use Rattle.std.specs.Prelude.{ℕ, ℤ, ◌+ℤ◌, Bool, ◌&&◌, not, List, [], ◌∷◌, Option, Some, None, codes, option_map, option_and_then, if◌then◌else◌}
 use Rattle.std.specs.Int.{cast_signed, w32}
 use Rattle.std.specs.Str.{bytes_eq}
 use Rattle.dpi_lex.specs.Words.{Word}
 use Rattle.dpirun.specs.Form.{holes_of, bytes_at}
 use Rattle.dpirun.specs.Literal.{value_of}
-use Rattle.dpirun.specs.declared.pair.TheConstants.{SV_FORM, C_FORM}
 use Rattle.dpirun.specs.declared.pair.Call.{Call}
 use Rattle.dpirun.specs.declared.pair.Body.{Body}
 use Rattle.dpirun.specs.declared.pair.Parameter.{Parameter}
 use Rattle.dpirun.specs.declared.pair.Parameter.TheVariants.{First, Second}
 
--- the words of both files, with a capital letter for each name and number
+-- the words of the SystemVerilog file, with a capital letter for each name, and N for a number
 unfoldable pub sv_form : List (List ℕ)
-sv_form = map (λ word. word.now) SV_FORM
+sv_form =
+    codes "module" ∷ codes "M" ∷ codes ";" ∷ codes "import" ∷ codes "\"DPI-C\"" ∷ codes "function" ∷
+    codes "int" ∷ codes "F" ∷ codes "(" ∷ codes "input" ∷ codes "int" ∷ codes "A" ∷ codes "," ∷ codes "input" ∷
+    codes "int" ∷ codes "B" ∷ codes ")" ∷ codes ";" ∷ codes "initial" ∷ codes "$display" ∷ codes "(" ∷
+    codes "\"%0d\"" ∷ codes "," ∷ codes "F" ∷ codes "(" ∷ codes "N" ∷ codes "," ∷ codes "N" ∷ codes ")" ∷
+    codes ")" ∷ codes ";" ∷ codes "endmodule" ∷ []
 
+-- the words of the C file
 unfoldable pub c_form : List (List ℕ)
-c_form = map (λ word. word.now) C_FORM
+c_form =
+    codes "int" ∷ codes "F" ∷ codes "(" ∷ codes "int" ∷ codes "P" ∷ codes "," ∷ codes "int" ∷ codes "Q" ∷
+    codes ")" ∷ codes "{" ∷ codes "return" ∷ codes "R" ∷ codes "+" ∷ codes "R" ∷ codes ";" ∷ codes "}" ∷ []
+
+-- the number of the `+` among the words of the C file, from 0
+abbrev pub plus : ℕ
+plus = 12
 
 -- the call in the SystemVerilog file: the called name, and the values of both numbers
 pub record CallOf : Type 0 where

@@ -24,10 +24,8 @@ impl<'a> Command<'a> {
     /// Reads the words after the program's own name: a SystemVerilog file, which ends in `.sv`,
     /// and then a C file, which ends in `.c`; neither begins with `-`. None for all other words.
     pub fn of(words: &'a Vec<String>) -> Option<Command<'a>>
-        ensures files {
-            option_map (λ c. record { sv = c.sv.now; c = c.c.now }) result
-            ≡ command_of (map string_bytes words.now.items)
-        }
+        ensures files { option_map (λ c. record { sv = c.sv.now; c = c.c.now }) result
+            ≡ command_of (map string_bytes words.now.items) }
         ensures distinct { IfSome result (λ c. bytes_eq c.sv.now c.c.now ≡ false) }
     {
         match words.as_slice() {

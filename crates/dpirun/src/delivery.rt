@@ -13,10 +13,8 @@ fn put_both<K: Sink, E: Sink>(outcome: &Outcome, out: &mut K, err: &mut E) -> Re
     ensures explained { OnOk result (Takes (E.told err.old) (E.told err.new) outcome.now.err.items) }
     ensures out_front { OnErr result (TakesFront (K.told out.old) (K.told out.new) outcome.now.out.items) }
     ensures err_front { OnErr result (TakesFront (E.told err.old) (E.told err.new) outcome.now.err.items) }
-    ensures failed {
-        IsErrOf result SinkFault.Failed
-        → HasRisen (K.faults out.old) (K.faults out.new) ⊎ HasRisen (E.faults err.old) (E.faults err.new)
-    }
+    ensures failed { IsErrOf result SinkFault.Failed
+        → HasRisen (K.faults out.old) (K.faults out.new) ⊎ HasRisen (E.faults err.old) (E.faults err.new) }
     ensures later { E.faults err.old ≤ E.faults err.new }
 {
     put_all(out, &outcome.out)?;
@@ -51,14 +49,10 @@ pub fn deliver<K: Sink, E: Sink>(outcome: &Outcome, out: &mut K, err: &mut E) ->
     ensures whole { result ≤ 7 → result ≡ outcome.now.status }
     ensures printed { result ≤ 7 → Takes (K.told out.old) (K.told out.new) outcome.now.out.items }
     ensures explained { result ≤ 7 → Takes (E.told err.old) (E.told err.new) outcome.now.err.items }
-    ensures unwritten {
-        result ≡ 8
-        → HasRisen (K.faults out.old) (K.faults out.new) ⊎ HasRisen (E.faults err.old) (E.faults err.new)
-    }
+    ensures unwritten { result ≡ 8
+        → HasRisen (K.faults out.old) (K.faults out.new) ⊎ HasRisen (E.faults err.old) (E.faults err.new) }
     ensures out_front { 8 ≤ result → TakesFront (K.told out.old) (K.told out.new) outcome.now.out.items }
-    ensures err_fronts {
-        8 ≤ result → TakesFronts (E.told err.old) (E.told err.new) outcome.now.err.items (last_line result)
-    }
+    ensures err_fronts { 8 ≤ result → TakesFronts (E.told err.old) (E.told err.new) outcome.now.err.items (last_line result) }
     ensures range { result ≤ 9 }
 {
     match put_both(outcome, out, err) {

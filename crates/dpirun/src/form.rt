@@ -48,13 +48,9 @@ fn fits(word: &str, kind: Kind, bytes: &[u8]) -> bool
 /// In a form the word `N` stands for a decimal number of at most 4,294,967,295, another single
 /// capital letter for a name that is free, and each other word for itself.
 pub fn holes(alloc: Global, form: &[&str], tokens: &Tokens) -> Result<Option<Vec<u32>>, NoMemory>
-    ensures open {
-        IfOk result (λ found. option_map (λ v. map (bytes_at (words_of tokens.now)) v.items) found
-        ≡ holes_of (map (λ word. word.now) form.now) (words_of tokens.now))
-    }
-    ensures inside {
-        IfOk result (λ found. IfSome found (λ v. All (λ i. i < length tokens.now.tokens) v.items))
-    }
+    ensures found { IfOk result (λ found. option_map (λ v. map (bytes_at (words_of tokens.now)) v.items) found
+        ≡ holes_of (map (λ word. word.now) form.now) (words_of tokens.now)) }
+    ensures inside { IfOk result (λ found. IfSome found (λ v. All (λ i. i < length tokens.now.tokens) v.items)) }
     ensures whole { IfOk result (λ found. IsSome found → length tokens.now.tokens ≡ length form.now) }
 {
     if tokens.len() as usize != form.len() {

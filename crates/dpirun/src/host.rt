@@ -39,7 +39,8 @@ fn read_whole<F: Read>(file: &mut F, into: &mut Vec<u8>) -> Result<(), FetchFaul
         if count > MOST_BYTES - into.len() {
             return Err(FetchFault::TooLong);
         }
-        into.extend_from_slice(&buffer[..count]).map_err(|_| FetchFault::NoMemory)?;
+        into.extend_from_slice(&buffer[..count])
+            .map_err(|_| FetchFault::NoMemory)?;
     }
     Err(FetchFault::TooLong)
 }

@@ -6,10 +6,8 @@ ghost use Rattle.dpirun.specs.Literal.{value_of};
 
 // the value of some digits and one digit more
 fn with_digit(value: u32, digit: u8) -> Option<u32>
-    ensures {
-        result ≡ (if is_ascii_digit digit && nat_lt (value * 10 + (digit - 48)) 4294967296
-        then Some (value * 10 + (digit - 48)) else None)
-    }
+    ensures { result ≡ (if is_ascii_digit digit && nat_lt (value * 10 + (digit - 48)) 4294967296
+        then Some (value * 10 + (digit - 48)) else None) }
 {
     if !digit.is_ascii_digit() {
         return None;

@@ -15,6 +15,8 @@ mod outcome;
 mod pair;
 mod program;
 mod reading;
+#[cfg(test)]
+mod tests;
 
 use delivery::cut_short;
 use dpi_ports::{NoMemory, PlainLedger, SinkFault, Steps};
@@ -42,6 +44,13 @@ fn main(rt: HostRuntime) -> ExitCode {
     };
     let mut files = HostFiles::new(&rt);
     let mut steps = Steps::new(PlainLedger::new());
-    let answer = dpirun(rt.alloc(), &words, &mut files, &mut out, &mut err, &mut steps);
+    let answer = dpirun(
+        rt.alloc(),
+        &words,
+        &mut files,
+        &mut out,
+        &mut err,
+        &mut steps,
+    );
     ExitCode::from(answer.status)
 }

@@ -14,9 +14,38 @@ use std::alloc::Global;
 
 /// The words of the SystemVerilog file.
 pub const SV_FORM: [&str; 32] = [
-    "module", "M", ";", "import", "\"DPI-C\"", "function", "int", "F", "(", "input", "int", "A",
-    ",", "input", "int", "B", ")", ";", "initial", "$display", "(", "\"%0d\"", ",", "F", "(", "N",
-    ",", "N", ")", ")", ";", "endmodule",
+    "module",
+    "M",
+    ";",
+    "import",
+    "\"DPI-C\"",
+    "function",
+    "int",
+    "F",
+    "(",
+    "input",
+    "int",
+    "A",
+    ",",
+    "input",
+    "int",
+    "B",
+    ")",
+    ";",
+    "initial",
+    "$display",
+    "(",
+    "\"%0d\"",
+    ",",
+    "F",
+    "(",
+    "N",
+    ",",
+    "N",
+    ")",
+    ")",
+    ";",
+    "endmodule",
 ];
 
 /// The words of the C file.
@@ -58,14 +87,12 @@ pub struct Body {
 
 impl Call {
     // the call of these names and numbers
-    fn from(alloc: Global, tokens: &Tokens, open: &[u32]) -> Result<Option<Call>, NoMemory>
-        requires { All (λ i. i < length tokens.now.tokens) open.now }
-        ensures {
-            IfOk result (λ found. option_map call_shown found
-            ≡ call_from (map (bytes_at (words_of tokens.now)) open.now))
-        }
+    fn from(alloc: Global, tokens: &Tokens, blanks: &[u32]) -> Result<Option<Call>, NoMemory>
+        requires { All (λ i. i < length tokens.now.tokens) blanks.now }
+        ensures { IfOk result (λ found. option_map call_shown found
+            ≡ call_from (map (bytes_at (words_of tokens.now)) blanks.now)) }
     {
-        let [_, function, first, second, called, left, right] = open else {
+        let [_, function, first, second, called, left, right] = blanks else {
             return Ok(None);
         };
         let same = tokens.bytes(*function) == tokens.bytes(*called);
@@ -92,7 +119,7 @@ impl Call {
         ensures { IfOk result (λ found. option_map call_shown found ≡ call_of (words_of tokens.now)) }
     {
         match holes(alloc, &SV_FORM, tokens)? {
-            Some(open) => Call::from(alloc, tokens, &open),
+            Some(blanks) => Call::from(alloc, tokens, &blanks),
             None => Ok(None),
         }
     }
@@ -100,11 +127,11 @@ impl Call {
 
 impl Body {
     // the body of these names, where the function has that name
-    fn from(tokens: &Tokens, open: &[u32], function: &[u8]) -> Option<Body>
-        requires { All (λ i. i < length tokens.now.tokens) open.now }
-        ensures { result ≡ body_from function.now (map (bytes_at (words_of tokens.now)) open.now) }
+    fn from(tokens: &Tokens, blanks: &[u32], function: &[u8]) -> Option<Body>
+        requires { All (λ i. i < length tokens.now.tokens) blanks.now }
+        ensures { result ≡ body_from function.now (map (bytes_at (words_of tokens.now)) blanks.now) }
     {
-        let [name, first, second, left, right] = open else {
+        let [name, first, second, left, right] = blanks else {
             return None;
         };
         let first = tokens.bytes(*first);
@@ -126,7 +153,7 @@ impl Body {
         ensures plus { IfOk result (λ found. IsSome found → PLUS < length tokens.now.tokens) }
     {
         match holes(alloc, &C_FORM, tokens)? {
-            Some(open) => Ok(Body::from(tokens, &open, function)),
+            Some(blanks) => Ok(Body::from(tokens, &blanks, function)),
             None => Ok(None),
         }
     }
@@ -136,7 +163,9 @@ impl Body {
     pub fn sum(self, call: &Call) -> Option<i32>
         ensures { result ≡ held_by_int (sum_of call.now.left call.now.right self) }
     {
-        self.left.argument(call).checked_add(self.right.argument(call))
+        self.left
+            .argument(call)
+            .checked_add(self.right.argument(call))
     }
 }
 

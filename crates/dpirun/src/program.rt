@@ -38,11 +38,9 @@ fn of_fault(alloc: Global, file: &str, fault: ReadFault) -> Result<Outcome, NoMe
 fn of_files<F: Files>(alloc: Global, sv: &str, c: &str, files: &mut F) -> Result<Outcome, NoMemory>
     requires { bytes_eq sv.now c.now ≡ false }
     ensures range { IfOk result (λ o. o.status ≤ 7) }
-    ensures ends {
-        IfOk result (λ o. Ends (F.told files.old) (sv.now ∷ c.now ∷ [])
+    ensures ends { IfOk result (λ o. Ends (F.told files.old) (sv.now ∷ c.now ∷ [])
         (answer_of_files (record { sv = sv.now; c = c.now }))
-        (F.faults files.old) (F.faults files.new) (F.last_fault files.new) (shown o))
-    }
+        (F.faults files.old) (F.faults files.new) (F.last_fault files.new) (shown o)) }
     ensures kept { F.told files.new ≡ F.told files.old }
 {
     let call = match read_call(alloc, files, sv) {
@@ -56,13 +54,15 @@ fn of_files<F: Files>(alloc: Global, sv: &str, c: &str, files: &mut F) -> Result
 }
 
 // what comes of the words
-fn of_words<F: Files>(alloc: Global, words: &Vec<String>, files: &mut F) -> Result<Outcome, NoMemory>
+fn of_words<F: Files>(
+    alloc: Global,
+    words: &Vec<String>,
+    files: &mut F,
+) -> Result<Outcome, NoMemory>
     ensures range { IfOk result (λ o. o.status ≤ 7) }
-    ensures ends {
-        IfOk result (λ o. Ends (F.told files.old) (map string_bytes words.now.items)
+    ensures ends { IfOk result (λ o. Ends (F.told files.old) (map string_bytes words.now.items)
         (answer_of (map string_bytes words.now.items))
-        (F.faults files.old) (F.faults files.new) (F.last_fault files.new) (shown o))
-    }
+        (F.faults files.old) (F.faults files.new) (F.last_fault files.new) (shown o)) }
     ensures kept { F.told files.new ≡ F.told files.old }
 {
     match Command::of(words) {
@@ -87,23 +87,15 @@ pub fn dpirun<F: Files, K: Sink, E: Sink, L: Ledger>(
     steps: &mut Steps<L>,
 ) -> Answer
     ensures range { result.status ≤ 9 }
-    ensures answers {
-        result.status ≤ 6 → Answers (F.told files.old) (map string_bytes words.now.items)
-        (printed (K.told out.old) (K.told out.new) (E.told err.old) (E.told err.new)) result.status
-    }
-    ensures unread {
-        result.status ≡ 7 → LeavesUnread (F.told files.old) (map string_bytes words.now.items)
+    ensures answers { result.status ≤ 6 → Answers (F.told files.old) (map string_bytes words.now.items)
+        (printed (K.told out.old) (K.told out.new) (E.told err.old) (E.told err.new)) result.status }
+    ensures unread { result.status ≡ 7 → LeavesUnread (F.told files.old) (map string_bytes words.now.items)
         (F.faults files.old) (F.faults files.new) (F.last_fault files.new)
-        (printed (K.told out.old) (K.told out.new) (E.told err.old) (E.told err.new))
-    }
-    ensures unwritten {
-        result.status ≡ 8
-        → HasRisen (K.faults out.old) (K.faults out.new) ⊎ HasRisen (E.faults err.old) (E.faults err.new)
-    }
-    ensures cut {
-        8 ≤ result.status → IsCut (F.told files.old) (map string_bytes words.now.items)
-        (printed (K.told out.old) (K.told out.new) (E.told err.old) (E.told err.new)) result.status
-    }
+        (printed (K.told out.old) (K.told out.new) (E.told err.old) (E.told err.new)) }
+    ensures unwritten { result.status ≡ 8
+        → HasRisen (K.faults out.old) (K.faults out.new) ⊎ HasRisen (E.faults err.old) (E.faults err.new) }
+    ensures cut { 8 ≤ result.status → IsCut (F.told files.old) (map string_bytes words.now.items)
+        (printed (K.told out.old) (K.told out.new) (E.told err.old) (E.told err.new)) result.status }
     ensures files { F.told files.new ≡ F.told files.old }
     ensures ticks { L.count steps.new ≡ L.count steps.old }
 {

@@ -61,9 +61,7 @@ fn fetched<F: Files>(alloc: Global, files: &mut F, name: &str) -> Result<Vec<u8>
     ensures too_long { IsErrOf result ReadFault.TooLong → HoldsMore (F.told files.old) name.now 1_048_576 }
     ensures built { result ≢ Err ReadFault.NotBuilt }
     ensures unread { IsErrOf result ReadFault.Unread → HasRisen (F.faults files.old) (F.faults files.new) }
-    ensures named {
-        IsErrOf result ReadFault.Unread → IfSome (F.last_fault files.new) (λ n. n ≡ name.now)
-    }
+    ensures named { IsErrOf result ReadFault.Unread → IfSome (F.last_fault files.new) (λ n. n ≡ name.now) }
     ensures kept { F.told files.new ≡ F.told files.old }
     ensures later { F.faults files.old ≤ F.faults files.new }
 {
@@ -123,17 +121,11 @@ fn sum_in(alloc: Global, text: &[u8], call: &Call) -> Result<Sum, ReadFault>
 /// `ReadFault::TooLong` and `ReadFault::NotBuilt` come exactly where the file is so refused,
 /// `ReadFault::Unread` only where the fetch failed, which was counted.
 pub fn read_call<F: Files>(alloc: Global, files: &mut F, name: &str) -> Result<Call, ReadFault>
-    ensures ok {
-        IfOk result (λ c. Reads (F.told files.old) name.now (λ text. read_as call_in_text text ≡ Ok (call_shown c)))
-    }
-    ensures refused {
-        IfErr result (λ e. IsRefused e
-        → Reads (F.told files.old) name.now (λ text. read_as call_in_text text ≡ Err (code_of e)))
-    }
+    ensures ok { IfOk result (λ c. Reads (F.told files.old) name.now (λ text. read_as call_in_text text ≡ Ok (call_shown c))) }
+    ensures refused { IfErr result (λ e. IsRefused e
+        → Reads (F.told files.old) name.now (λ text. read_as call_in_text text ≡ Err (code_of e))) }
     ensures unread { IsErrOf result ReadFault.Unread → HasRisen (F.faults files.old) (F.faults files.new) }
-    ensures named {
-        IsErrOf result ReadFault.Unread → IfSome (F.last_fault files.new) (λ n. n ≡ name.now)
-    }
+    ensures named { IsErrOf result ReadFault.Unread → IfSome (F.last_fault files.new) (λ n. n ≡ name.now) }
     ensures kept { F.told files.new ≡ F.told files.old }
     ensures later { F.faults files.old ≤ F.faults files.new }
 {
@@ -142,19 +134,18 @@ pub fn read_call<F: Files>(alloc: Global, files: &mut F, name: &str) -> Result<C
 }
 
 /// Fetches the C file and reads what it makes of the call; refused as `read_call` is.
-pub fn read_sum<F: Files>(alloc: Global, files: &mut F, name: &str, call: &Call) -> Result<Sum, ReadFault>
-    ensures ok {
-        IfOk result (λ s. Reads (F.told files.old) name.now
-        (λ text. read_as (sum_in_text (call_shown call.now)) text ≡ Ok s))
-    }
-    ensures refused {
-        IfErr result (λ e. IsRefused e → Reads (F.told files.old) name.now
-        (λ text. read_as (sum_in_text (call_shown call.now)) text ≡ Err (code_of e)))
-    }
+pub fn read_sum<F: Files>(
+    alloc: Global,
+    files: &mut F,
+    name: &str,
+    call: &Call,
+) -> Result<Sum, ReadFault>
+    ensures ok { IfOk result (λ s. Reads (F.told files.old) name.now
+        (λ text. read_as (sum_in_text (call_shown call.now)) text ≡ Ok s)) }
+    ensures refused { IfErr result (λ e. IsRefused e → Reads (F.told files.old) name.now
+        (λ text. read_as (sum_in_text (call_shown call.now)) text ≡ Err (code_of e))) }
     ensures unread { IsErrOf result ReadFault.Unread → HasRisen (F.faults files.old) (F.faults files.new) }
-    ensures named {
-        IsErrOf result ReadFault.Unread → IfSome (F.last_fault files.new) (λ n. n ≡ name.now)
-    }
+    ensures named { IsErrOf result ReadFault.Unread → IfSome (F.last_fault files.new) (λ n. n ≡ name.now) }
     ensures kept { F.told files.new ≡ F.told files.old }
     ensures later { F.faults files.old ≤ F.faults files.new }
 {

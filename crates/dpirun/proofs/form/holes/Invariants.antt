@@ -7,6 +7,6 @@ abbrev pub invariant-loop-i : goal.invariant-loop-i
 invariant-loop-i l = record {
   read : holes_of (map (λ word. word.now) l.form) (words_of l.tokens)
       ≡ option_map (λ more. map (bytes_at (words_of l.tokens)) l.found.items ++ more)
-        (holes_of (drop l.i (map (λ word. word.now) l.form)) (drop l.i (words_of l.tokens)));
+      (holes_of (drop l.i (map (λ word. word.now) l.form)) (drop l.i (words_of l.tokens)));
   inside : All (λ i. i < length l.tokens.tokens) l.found.items;
 }

@@ -10,8 +10,8 @@ unfolding c_form
 returns-in-Some-clause-found c =
     let ws : List Word = words_of c.args.tokens.now in
     let filled : holes_of c_form ws ≡ Some (map (bytes_at ws) c.deref.result.now) =
-        sym c.in_ok-open.ensures.open ∙ ap (option_map (λ v. map (bytes_at ws) v.items)) c.in-Some.is
-        ∙ ap (λ items. Some (map (bytes_at ws) items)) (sym c.deref.ensures.value) in
+    sym c.in_ok-blanks.ensures.found ∙ ap (option_map (λ v. map (bytes_at ws) v.items)) c.in-Some.is
+    ∙ ap (λ items. Some (map (bytes_at ws) items)) (sym c.deref.ensures.value) in
     c.from.ensures ∙ sym (ap (option_and_then (body_from c.args.function.now)) filled)
 
 pub returns-in-None-clause-found : goal.returns-in-None-clause-found
@@ -19,5 +19,5 @@ unfolding c_form
 returns-in-None-clause-found c =
     let ws : List Word = words_of c.args.tokens.now in
     let unfilled : holes_of c_form ws ≡ None =
-        sym c.in_ok-open.ensures.open ∙ ap (option_map (λ v. map (bytes_at ws) v.items)) c.in-None.is in
+    sym c.in_ok-blanks.ensures.found ∙ ap (option_map (λ v. map (bytes_at ws) v.items)) c.in-None.is in
     sym (ap (option_and_then (body_from c.args.function.now)) unfilled)
