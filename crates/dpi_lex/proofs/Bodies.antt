@@ -1,4 +1,4 @@
-use Rattle.std.proofs.Common.{◌≡◌, ℕ, ◌+◌, ◌-◌, ◌<◌, ◌≤◌, Bool, true, false, not, cond, ◌&&◌, ◌||◌, zero, suc, List, [], ◌∷◌, ◌++◌, length, take, drop, get_or, refl, ap, sym, ◌∙◌, arith, inl, inr, length-drop, add-zero}
+use Rattle.std.proofs.Common.{◌≡◌, ℕ, ◌+◌, ◌-◌, ◌<◌, ◌≤◌, Bool, true, false, not, cond, ◌&&◌, ◌||◌, zero, suc, List, [], ◌∷◌, ◌++◌, length, take, drop, get_or, refl, ap, sym, ◌∙◌, arith, inl, inr, length-drop, add-zero, append_assoc}
 use Rattle.std.specs.Prelude.{◌⊎◌}
 use Rattle.std.proofs.lemmas.List.{drop_more, take_more, get_or-drop}
 use Rattle.std.proofs.Math.Seq.{take-add}
@@ -93,3 +93,15 @@ IsLongestBody-backslash e n xs body lt quote feed =
           let plain : is_plain (get_or xs n 0) ≡ true = ap (λ t. not (t || is_backslash (get_or xs n 0) || is_line_feed (get_or xs n 0))) quote ∙ ap (λ t. not (t || is_line_feed (get_or xs n 0))) k ∙ ap not feed in
           sym (body.longest (n + 1) (omega arith) (omega arith)) ∙ is_body-plain e n xs lt body.body k plain
     ] refl
+
+-- an escape goes on a body
+pub is_body-escape : (e : ℕ → Bool) (n : ℕ) (xs : List ℕ) → n + 1 < length xs → is_body e false (take n xs) ≡ true → is_backslash (get_or xs n 0) ≡ true → e (get_or xs (n + 1) 0) ≡ true → is_body e false (take (n + 2) xs) ≡ true
+is_body-escape e n xs lt body slash letter =
+    let a : ℕ = get_or xs n 0 in
+    let b : ℕ = get_or xs (n + 1) 0 in
+    let two : n + 2 ≡ n + 1 + 1 = omega arith in
+    let whole : take (n + 2) xs ≡ take n xs ++ a ∷ b ∷ [] = ap (λ k. take k xs) two ∙ take_more xs (n + 1) 0 lt ∙ ap (λ ys. ys ++ b ∷ []) (take_more xs n 0 (omega arith)) ∙ append_assoc (take n xs) (a ∷ []) (b ∷ []) in
+    ap (is_body e false) whole
+    ∙ is_body-append e false (take n xs) (a ∷ b ∷ []) body
+    ∙ ap (λ t. cond t (e b && true) (is_plain a && is_body e false (b ∷ []))) slash
+    ∙ ap (λ t. t && true) letter

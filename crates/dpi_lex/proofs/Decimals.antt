@@ -1,30 +1,48 @@
-use Rattle.std.proofs.Common.{◌≡◌, ℕ, ◌+◌, ◌-◌, ◌*◌, ◌<◌, ◌≤◌, true, false, cond, List, [], ◌∷◌, length, take, drop, get_or, ap, sym, ◌∙◌, arith}
-use Rattle.std.specs.Prelude.{fold}
+use Rattle.std.proofs.Common.{◌≡◌, ℕ, ◌+◌, ◌*◌, ◌<◌, ◌≤◌, true, false, cond, List, [], ◌∷◌, length, take, drop, get_or, ap, sym, ◌∙◌, arith}
+use Rattle.std.specs.Prelude.{fold, nat_lt}
+use Rattle.std.proofs.lemmas.Bool.Decides.{nat_tests}
 use Rattle.std.proofs.lemmas.Grind.{fold-append}
+use Rattle.std.proofs.Math.Nat.{mul-le-mul_left}
 use Rattle.std.proofs.lemmas.List.{take_more, take-append-drop}
-use Rattle.dpi_lex.specs.Bytes.{is_digit}
-use Rattle.dpi_lex.specs.Shapes.{next_decimal, decimal_value}
+use Rattle.dpi_lex.specs.Bytes.{digit_value}
+use Rattle.dpi_lex.specs.Digits.{is_digit_in, next_value, value_in}
+
+-- a base that has a digit isn't 0
+pub is_digit_in-base : (base b : ℕ) → is_digit_in base b ≡ true → 0 < base
+is_digit_in-base base b h = above (digit_value b) h
+  where
+    above : (d : ℕ) → nat_lt d base ≡ true → 0 < base
+    above d h = grind (arith, nat_tests)
 
 -- a value doesn't fall when a byte comes behind it
-next_decimal-ge : (v b : ℕ) → v ≤ next_decimal v b
-next_decimal-ge v b = elim (is_digit b) as (λ t. v ≤ cond t (v * 10 + (b - 48)) v) [ true ↦ omega arith | false ↦ omega arith ]
+next_value-ge : (base v b : ℕ) → 0 < base → v ≤ next_value base v b
+next_value-ge base v b some =
+    elim (is_digit_in base b) as (λ t. v ≤ cond t (v * base + digit_value b) v)
+    [ true ↦ omega (arith, grows v base some) | false ↦ omega arith ]
+  where
+    grows : (v base : ℕ) → 0 < base → v ≤ v * base
+    grows v base some =
+        let one : 1 ≤ base = omega arith in
+        omega (arith, mul-le-mul_left v one)
 
-decimal_from-ge : (v : ℕ) (xs : List ℕ) → v ≤ fold next_decimal v xs
-decimal_from-ge v [] = omega arith
-decimal_from-ge v (b ∷ xs) = omega (arith, next_decimal-ge v b, decimal_from-ge (next_decimal v b) xs)
+value_from-ge : (base v : ℕ) (xs : List ℕ) → 0 < base → v ≤ fold (next_value base) v xs
+value_from-ge base v [] some = omega arith
+value_from-ge base v (b ∷ xs) some =
+    omega (arith, next_value-ge base v b some, value_from-ge base (next_value base v b) xs some)
 
 -- a front's value is at most the whole's
-pub decimal_value-take : (xs : List ℕ) (i : ℕ) → decimal_value (take i xs) ≤ decimal_value xs
-decimal_value-take xs i =
-    let whole : decimal_value xs ≡ fold next_decimal (decimal_value (take i xs)) (drop i xs) = ap decimal_value (sym (take-append-drop i xs)) ∙ fold-append next_decimal 0 (take i xs) (drop i xs) in
-    omega (arith, whole, decimal_from-ge (decimal_value (take i xs)) (drop i xs))
+pub value_in-take : (base : ℕ) (xs : List ℕ) (i : ℕ) → 0 < base → value_in base (take i xs) ≤ value_in base xs
+value_in-take base xs i some =
+    let whole : value_in base xs ≡ fold (next_value base) (value_in base (take i xs)) (drop i xs) = ap (value_in base) (sym (take-append-drop i xs)) ∙ fold-append (next_value base) 0 (take i xs) (drop i xs) in
+    omega (arith, whole, value_from-ge base (value_in base (take i xs)) (drop i xs) some)
 
 -- one more byte
-pub decimal_value-more : (xs : List ℕ) (i : ℕ) → i < length xs → decimal_value (take (i + 1) xs) ≡ next_decimal (decimal_value (take i xs)) (get_or xs i 0)
-decimal_value-more xs i lt = ap decimal_value (take_more xs i 0 lt) ∙ fold-append next_decimal 0 (take i xs) (get_or xs i 0 ∷ [])
+pub value_in-more : (base : ℕ) (xs : List ℕ) (i : ℕ) → i < length xs → value_in base (take (i + 1) xs) ≡ next_value base (value_in base (take i xs)) (get_or xs i 0)
+value_in-more base xs i lt =
+    ap (value_in base) (take_more xs i 0 lt) ∙ fold-append (next_value base) 0 (take i xs) (get_or xs i 0 ∷ [])
 
-pub next_decimal-digit : (v b : ℕ) → is_digit b ≡ true → next_decimal v b ≡ v * 10 + (b - 48)
-next_decimal-digit v b h = ap (λ t. cond t (v * 10 + (b - 48)) v) h
+pub next_value-digit : (base v b : ℕ) → is_digit_in base b ≡ true → next_value base v b ≡ v * base + digit_value b
+next_value-digit base v b h = ap (λ t. cond t (v * base + digit_value b) v) h
 
-pub next_decimal-other : (v b : ℕ) → is_digit b ≡ false → next_decimal v b ≡ v
-next_decimal-other v b h = ap (λ t. cond t (v * 10 + (b - 48)) v) h
+pub next_value-other : (base v b : ℕ) → is_digit_in base b ≡ false → next_value base v b ≡ v
+next_value-other base v b h = ap (λ t. cond t (v * base + digit_value b) v) h

@@ -1,9 +1,9 @@
-use Rattle.std.proofs.Common.{◌≡◌, ℕ, ◌<◌, ◌≤◌, zero, suc, Option, Some, None, refl, arith, ⊎_elim}
+use Rattle.std.proofs.Common.{◌≡◌, ℕ, ◌<◌, ◌≤◌, zero, suc, Option, Some, None, refl, arith, ⊎_elim, List, length, take}
 use Rattle.std.specs.Option.{option_map_or}
 use Rattle.std.proofs.lemmas.Bool.{cases_lt}
 use Rattle.dpi_lex.specs.declared.form.Form.{Form}
 use Rattle.dpi_lex.specs.declared.form.Stretch.{Stretch}
-use Rattle.dpi_lex.specs.Stretches.{longest, bad_byte}
+use Rattle.dpi_lex.specs.Stretches.{longest, longest_front, IsLongest, bad_byte}
 
 -- where no longer stretch has a form, the stretch that has one is the longest
 pub longest_is : (form_of : ℕ → Option Form) (limit n : ℕ) (form : Form) → 0 < n → n ≤ limit → form_of n ≡ Some form → ((m : ℕ) → n < m → m ≤ limit → form_of m ≡ None) → longest form_of limit ≡ record { form = form; len = n }
@@ -41,3 +41,25 @@ longest-within form_of (suc zero) some = by_form-within (form_of 1) zero bad_byt
 longest-within form_of (suc (suc k)) some =
     let h : (0 < (longest form_of (suc k)).len) × ((longest form_of (suc k)).len ≤ suc k) = longest-within form_of (suc k) (omega arith) in
     by_form-within (form_of (suc (suc k))) (suc k) (longest form_of (suc k)) (h.0, omega arith)
+
+-- a stretch past a count is the longest of all forms that agree past it
+pub longest_past : (f g : ℕ → Option Form) (limit d : ℕ) → 0 < d → d < (longest f limit).len → ((m : ℕ) → d < m → m ≤ limit → g m ≡ f m) → longest g limit ≡ longest f limit
+unfolding longest
+longest_past f g zero d some past same = absurd (omega arith)
+longest_past f g (suc k) d some past same =
+    ⊎_elim
+    (λ (lt : d < suc k). rw (same (suc k) lt (omega arith)) (by_form (f (suc k)) past (λ h. longest_past f g k d some h (λ m more le. same m more (omega arith)))))
+    (λ (ge : suc k ≤ d). absurd (let h : (0 < (longest f (suc k)).len) × ((longest f (suc k)).len ≤ suc k) = longest-within f (suc k) (omega arith) in too_far h.1 ge))
+    (cases_lt d (suc k))
+  where
+    too_far : (longest f (suc k)).len ≤ suc k → suc k ≤ d → ⊥
+    too_far h ge = omega arith
+
+    by_form : (form : Option Form) → d < (option_map_or (λ x. record { form = x; len = suc k }) form (longest f k)).len → (d < (longest f k).len → longest g k ≡ longest f k) → option_map_or (λ x. record { form = x; len = suc k }) form (longest g k) ≡ option_map_or (λ x. record { form = x; len = suc k }) form (longest f k)
+    by_form None past later = later past
+    by_form (Some form) past later = refl
+
+-- a longest stretch of a kind
+pub longest-from : (form_of : List ℕ → Option Form) (rest : List ℕ) (s : Stretch) → IsLongest form_of rest s → longest_front form_of rest ≡ s
+longest-from form_of rest s h =
+    longest_is (λ m. form_of (take m rest)) (length rest) s.len s.form h.some h.within h.is h.longer

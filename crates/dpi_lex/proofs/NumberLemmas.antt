@@ -3,7 +3,8 @@ use Rattle.std.specs.List.{list_all, prefix_len}
 use Rattle.dpi_lex.specs.declared.form.Form.{Form}
 use Rattle.dpi_lex.specs.declared.form.Stretch.{Stretch}
 use Rattle.dpi_lex.specs.Bytes.{is_digit}
-use Rattle.dpi_lex.specs.Shapes.{form_if, number_form, plain_number}
+use Rattle.dpi_lex.specs.Shapes.{form_if}
+use Rattle.dpi_lex.specs.C.{number_form, plain_number}
 use Rattle.dpi_lex.specs.Stretches.{longest_front}
 use Rattle.dpi_lex.proofs.Runs.{longest_front_run, prefix_len-some}
 

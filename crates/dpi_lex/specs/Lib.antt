@@ -1,7 +1,12 @@
 pub mod Bytes
+pub mod C
+pub mod Digits
 pub mod Languages
 pub mod Lexed
+pub mod Listed
 pub mod Place
 pub mod Shapes
 pub mod Stretches
+pub mod SvNumbers
+pub mod SystemVerilog
 pub mod Words

@@ -1,16 +1,22 @@
-use Rattle.std.specs.Prelude.{ℕ, Bool, true, false, Option, Some, None, List, [], ◌∷◌, ◌+◌, ◌-◌, ◌*◌, ◌≡◌, ◌<◌, ◌≤◌, ◌&&◌, ◌||◌, not, nat_le, if◌then◌else◌, length, take, slice_index, fold}
-use Rattle.std.specs.List.{list_all}
+use Rattle.std.specs.Prelude.{ℕ, Bool, true, false, Option, Some, None, List, [], ◌∷◌, ◌++◌, ◌-◌, ◌≡◌, ◌<◌, ◌≤◌, ◌&&◌, ◌||◌, not, if◌then◌else◌, length, take, drop, slice_index, codes, nat_eq}
+use Rattle.std.specs.List.{list_all, list_any, starts_with}
 use Rattle.std.specs.Option.{option_or}
-use Rattle.dpi_lex.specs.declared.fault.LexFault.TheVariants.{BadByte, BadNumber, Unclosed}
+use lib.Pointwise.{pointwise}
+use Rattle.dpi_lex.specs.declared.fault.LexFault.TheVariants.{BadByte, Unclosed}
 use Rattle.dpi_lex.specs.declared.form.Form.{Form}
-use Rattle.dpi_lex.specs.declared.form.Form.TheVariants.{Whole, Faulty}
-use Rattle.dpi_lex.specs.declared.token.Kind.TheVariants.{Number, Text}
-use Rattle.dpi_lex.specs.Bytes.{is_blank, is_digit, is_name_start, is_name_byte, is_quote, is_backslash}
+use Rattle.dpi_lex.specs.declared.form.Form.TheVariants.{Skipped, Whole, Faulty}
+use Rattle.dpi_lex.specs.declared.token.Kind.TheVariants.{Text}
+use Rattle.dpi_lex.specs.Bytes.{is_among, is_blank, is_name_start, is_quote, is_backslash}
 use Rattle.dpi_lex.specs.Place.{is_line_feed}
 
 -- a form where the test passes
 abbrev pub form_if : Bool → Form → Option Form
 form_if test form = if test then Some form else None
+
+-- the first of the forms that is one
+abbrev pub first_form : List (Option Form) → Option Form
+first_form [] = None
+first_form (form ∷ forms) = option_or form (first_form forms)
 
 -- one blank or line end
 abbrev pub is_space : List ℕ → Bool
@@ -18,32 +24,51 @@ is_space [] = false
 is_space (b ∷ []) = is_blank b || is_line_feed b
 is_space (b ∷ c ∷ more) = false
 
--- a name: a letter or `_`, then letters, digits or `_`
-abbrev pub is_name : List ℕ → Bool
-is_name [] = false
-is_name (b ∷ more) = is_name_start b && list_all is_name_byte more
+-- bytes of one line, with that text at their beginning
+abbrev pub is_line_of : List ℕ → List ℕ → Bool
+is_line_of text bytes =
+    starts_with nat_eq bytes text && list_all (λ b. not (is_line_feed b)) bytes
 
--- digits alone, at least one
-abbrev pub is_digits : List ℕ → Bool
-is_digits [] = false
-is_digits (b ∷ more) = list_all is_digit (b ∷ more)
+-- the bytes hold `*/`
+abbrev pub holds_end : List ℕ → Bool
+holds_end [] = false
+holds_end (b ∷ more) = starts_with nat_eq (b ∷ more) (codes "*/") || holds_end more
 
--- a value with one more byte behind its digits; what is no digit adds nothing
-abbrev pub next_decimal : ℕ → ℕ → ℕ
-next_decimal value b = if is_digit b then value * 10 + (b - 48) else value
+-- so many of the bytes behind `/*` end with the first `*/`
+pub record EndsAt (inner : List ℕ) (n : ℕ) : Type 0 where
+  pub some : 0 < n
+  pub within : n ≤ length inner
+  pub ends : holds_end (take n inner) ≡ true
+  pub first : holds_end (take (n - 1) inner) ≡ false
 
--- the value of the decimal digits among the bytes
-abbrev pub decimal_value : List ℕ → ℕ
-decimal_value bytes = fold next_decimal 0 bytes
+-- `/*` and what follows it up to `*/`, which doesn't come before; unclosed without it
+abbrev pub block_form : List ℕ → Option Form
+block_form bytes =
+    let inner = drop 2 bytes in
+    form_if
+    (starts_with nat_eq bytes (codes "/*") && not (holds_end (take (length inner - 1) inner)))
+    (if holds_end inner then Skipped else Faulty (Unclosed 0))
 
--- a plain number has a value of at most 2^32 - 1
-abbrev pub plain_number : List ℕ → Form
-plain_number bytes =
-    if nat_le (decimal_value bytes) 4294967295 then Whole Number else Faulty (BadNumber 0)
+-- a name: a letter or `_`, and bytes with which a name goes on
+abbrev pub is_name : (ℕ → Bool) → List ℕ → Bool
+is_name goes_on [] = false
+is_name goes_on (b ∷ more) = is_name_start b && list_all goes_on more
 
--- a stretch of digits alone
-abbrev pub number_form : List ℕ → Option Form
-number_form bytes = form_if (is_digits bytes) (plain_number bytes)
+-- the bytes are one of the texts
+abbrev pub is_listed : List (List ℕ) → List ℕ → Bool
+is_listed texts bytes = list_any (λ text. pointwise nat_eq bytes text) texts
+
+-- the texts between the spaces, with one that has begun before
+abbrev pub texts_after : List ℕ → List ℕ → List (List ℕ)
+texts_after begun [] = begun ∷ []
+texts_after begun (b ∷ more) =
+    if is_among (codes " ") b
+    then begun ∷ texts_after [] more
+    else texts_after (begun ++ b ∷ []) more
+
+-- the texts between the spaces
+abbrev pub texts : List ℕ → List (List ℕ)
+texts bytes = texts_after [] bytes
 
 -- a byte that stands for itself in a string
 abbrev pub is_plain : ℕ → Bool
@@ -77,11 +102,6 @@ text_form is_escape (b ∷ more) =
     else (if is_body is_escape false (take last more)
     then ending_form (length more) (slice_index more last)
     else None))
-
--- the first of the forms that is one
-abbrev pub first_form : List (Option Form) → Option Form
-first_form [] = None
-first_form (form ∷ forms) = option_or form (first_form forms)
 
 -- so many of the bytes after a string's first quote have no end yet, and no more of them
 pub record IsLongestBody (is_escape : ℕ → Bool) (inner : List ℕ) (n : ℕ) : Type 0 where

@@ -1,4 +1,4 @@
-use Rattle.std.specs.Prelude.{◌≡◌, ◌⊎◌, ℕ, Bool, Option, Result, Ok, Err, List, [], ◌∷◌, ◌++◌, ◌+◌, ◌-◌, ◌≤◌, ◌||◌, ◌==◌, zero, suc, nat_lt, if◌then◌else◌, length, take, drop, slice_index}
+use Rattle.std.specs.Prelude.{◌≡◌, ◌⊎◌, ℕ, Bool, Option, Some, None, Result, Ok, Err, List, [], ◌∷◌, ◌++◌, ◌+◌, ◌-◌, ◌<◌, ◌≤◌, ◌||◌, ◌==◌, zero, suc, nat_lt, if◌then◌else◌, length, take, drop, slice_index}
 use Rattle.std.specs.Option.{option_map_or}
 use Rattle.std.specs.Result.{result_map_both}
 use Rattle.dpi_lex.specs.declared.fault.LexFault.{LexFault}
@@ -27,6 +27,17 @@ longest form_of (suc n) =
 -- the longest stretch at the front of the bytes, where its form depends on it alone
 abbrev pub longest_front : (List ℕ → Option Form) → List ℕ → Stretch
 longest_front form_of rest = longest (λ n. form_of (take n rest)) (length rest)
+
+-- it's a longest stretch of that kind at the front of the bytes
+pub record IsLongest (form_of : List ℕ → Option Form) (rest : List ℕ) (s : Stretch) : Type 0 where
+  pub some : 0 < s.len
+  pub within : s.len ≤ length rest
+  pub is : form_of (take s.len rest) ≡ Some s.form
+  pub longer : (m : ℕ) → s.len < m → m ≤ length rest → form_of (take m rest) ≡ None
+
+-- no front of the bytes has a form of that kind
+abbrev pub HasNone : (List ℕ → Option Form) → List ℕ → Type 0
+HasNone form_of rest = (m : ℕ) → m ≤ length rest → form_of (take m rest) ≡ None
 
 -- the longest stretch at the front of the bytes, which begin a line or don't
 unfoldable pub front_of : Forms → Bool → List ℕ → Stretch

@@ -1,9 +1,11 @@
 //! Which bytes belong together.
 
-ghost use Rattle.std.specs.Prelude.{◌≡◌, ◌≤◌, ◌||◌, length, drop};
+ghost use Rattle.std.specs.Prelude.{◌≡◌, ◌≤◌, ◌||◌, not, length, drop, slice_index};
 ghost use Rattle.std.specs.List.{prefix_len};
 ghost use Rattle.dpi_lex.specs.Bytes as spec;
 ghost use Rattle.dpi_lex.specs.Place.{is_line_feed};
+
+use crate::language::Language;
 
 pub(crate) fn is_space(b: u8) -> bool
     ensures { result ≡ (spec.is_blank b || is_line_feed b) }
@@ -17,16 +19,43 @@ pub(crate) fn is_digit(b: u8) -> bool
     b'0' <= b && b <= b'9'
 }
 
+pub(crate) fn is_letter(b: u8) -> bool
+    ensures { result ≡ spec.is_letter b }
+{
+    b.is_ascii_alphabetic()
+}
+
 pub(crate) fn is_name_start(b: u8) -> bool
     ensures { result ≡ spec.is_name_start b }
 {
-    b.is_ascii_alphabetic() || b == b'_'
+    is_letter(b) || b == b'_'
 }
 
-pub(crate) fn is_name_byte(b: u8) -> bool
-    ensures { result ≡ spec.is_name_byte b }
+/// Whether a name of the language goes on with the byte.
+pub(crate) fn is_name_byte(language: Language, b: u8) -> bool
+    ensures { result ≡ spec.is_name_byte language b }
 {
-    is_name_start(b) || is_digit(b)
+    match language {
+        Language::SystemVerilog => is_name_start(b) || is_digit(b) || b == b'$',
+        Language::C => is_name_start(b) || is_digit(b),
+    }
+}
+
+/// Whether the byte may follow a backslash of the language.
+pub(crate) fn is_escape(language: Language, b: u8) -> bool
+    ensures { result ≡ spec.is_escape language b }
+{
+    match language {
+        Language::SystemVerilog => b == b'n' || b == b't' || b == b'\\' || b == b'"',
+        Language::C => false,
+    }
+}
+
+/// The byte of that number, from 0; 0 past the end.
+pub(crate) fn byte_at(bytes: &[u8], i: usize) -> u8
+    ensures { result ≡ slice_index bytes.now i }
+{
+    if i < bytes.len() { bytes[i] } else { 0 }
 }
 
 /// The bytes from a place on.
@@ -38,11 +67,13 @@ pub(crate) fn bytes_from(bytes: &[u8], place: usize) -> &[u8]
 }
 
 /// How many bytes at the front belong to a name.
-pub(crate) fn name_len(rest: &[u8]) -> usize
-    ensures run { result ≡ prefix_len spec.is_name_byte rest.now }
+pub(crate) fn name_len(language: Language, rest: &[u8]) -> usize
+    ensures run { result ≡ prefix_len (spec.is_name_byte language) rest.now }
     ensures within { result ≤ length rest.now }
 {
-    rest.iter().take_while(|b| is_name_byte(**b)).count()
+    rest.iter()
+        .take_while(|b| is_name_byte(language, **b))
+        .count()
 }
 
 /// How many digits stand at the front.
@@ -51,4 +82,12 @@ pub(crate) fn digits_len(rest: &[u8]) -> usize
     ensures within { result ≤ length rest.now }
 {
     rest.iter().take_while(|b| is_digit(**b)).count()
+}
+
+/// How many bytes the line has from the front on, without the line feed.
+pub(crate) fn line_len(rest: &[u8]) -> usize
+    ensures run { result ≡ prefix_len (λ b. not (is_line_feed b)) rest.now }
+    ensures within { result ≤ length rest.now }
+{
+    rest.iter().take_while(|b| **b != b'\n').count()
 }

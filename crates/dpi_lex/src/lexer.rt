@@ -4,13 +4,14 @@ ghost use Rattle.std.specs.Prelude.{◌≡◌, ◌<◌, ◌≤◌, ◌+◌, ◌|
 ghost use Rattle.dpi_lex.specs.declared.fault.LexFault.TheVariants.{NoMemory};
 ghost use Rattle.dpi_lex.specs.Languages.{forms_of, sv_lexed, c_lexed};
 ghost use Rattle.dpi_lex.specs.Lexed.{IsText};
-ghost use Rattle.dpi_lex.specs.Stretches.{begins_line, stretch_at, fault_place, fault_from, lexed, IsPlaced, IsRefusal};
+ghost use Rattle.dpi_lex.specs.Stretches.{front_of, begins_line, stretch_at, fault_place, fault_from, lexed, IsPlaced, IsRefusal};
 
 use crate::bytes::bytes_from;
+use crate::c_front::c_front;
 use crate::fault::LexFault;
 use crate::form::{Form, Stretch};
-use crate::front::front;
 use crate::language::Language;
+use crate::sv_front::sv_front;
 use crate::token::Token;
 use crate::tokens::Tokens;
 use std::alloc::Global;
@@ -21,6 +22,19 @@ fn begins_line(text: &[u8], place: usize) -> bool
     ensures { result ≡ begins_line text.now place }
 {
     place == 0 || text[place - 1] == b'\n'
+}
+
+/// The longest stretch at the front of the bytes, which begin a line or don't.
+fn front(language: Language, begins: bool, rest: &[u8]) -> Stretch
+    requires text { IsText rest.now }
+    requires some { 0 < length rest.now }
+    ensures stretch { result ≡ front_of (forms_of language) begins rest.now }
+    ensures placed { IsPlaced result.form }
+{
+    match language {
+        Language::SystemVerilog => sv_front(begins, rest),
+        Language::C => c_front(begins, rest),
+    }
 }
 
 /// The longest stretch from the place on.

@@ -8,14 +8,19 @@
 #![tactic(auto)]
 
 mod bytes;
+mod c_front;
+mod comments;
+mod digits;
 mod fault;
 mod form;
-mod front;
 mod language;
 mod lexer;
+mod listed;
 mod numbers;
 mod place;
 mod signs;
+mod sv_front;
+mod sv_numbers;
 mod texts;
 mod token;
 mod tokens;

@@ -5,7 +5,7 @@ ghost use Rattle.dpi_lex.specs.declared.form.Form.TheVariants.{Skipped, Whole};
 ghost use Rattle.dpi_lex.specs.declared.token.Kind.TheVariants.{Sign};
 ghost use Rattle.dpi_lex.specs.Bytes.{is_among, is_blank};
 ghost use Rattle.dpi_lex.specs.Place.{is_line_feed};
-ghost use Rattle.dpi_lex.specs.Languages.{is_sign};
+ghost use Rattle.dpi_lex.specs.C.{is_sign};
 ghost use Rattle.dpi_lex.specs.Shapes.{form_if, is_space};
 ghost use Rattle.dpi_lex.specs.Stretches.{longest_front, IsPlaced};
 

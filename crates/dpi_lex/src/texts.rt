@@ -1,31 +1,20 @@
 //! Strings.
 
 ghost use Rattle.std.specs.Prelude.{◌≡◌, ◌<◌, IsTrue, length, slice_index};
-ghost use Rattle.dpi_lex.specs.Bytes.{is_quote};
-ghost use Rattle.dpi_lex.specs.Languages.{is_escape_of};
+ghost use Rattle.dpi_lex.specs.Bytes.{is_quote, is_escape};
 ghost use Rattle.dpi_lex.specs.Lexed.{IsText};
 ghost use Rattle.dpi_lex.specs.Shapes.{text_form, IsLongestBody};
 ghost use Rattle.dpi_lex.specs.Stretches.{longest_front, IsPlaced};
 
-use crate::bytes::bytes_from;
+use crate::bytes::{bytes_from, is_escape};
 use crate::fault::LexFault;
 use crate::form::{Form, Stretch};
 use crate::language::Language;
 use crate::token::Kind;
 
-/// Whether the byte may follow a backslash in a string of the language.
-fn is_escape(language: Language, byte: u8) -> bool
-    ensures { result ≡ is_escape_of language byte }
-{
-    match language {
-        Language::SystemVerilog => false,
-        Language::C => false,
-    }
-}
-
 /// How many of the bytes after a string's first quote come before the one that ends it.
 fn body_len(language: Language, inner: &[u8]) -> usize
-    ensures { IsLongestBody (is_escape_of language) inner.now result }
+    ensures { IsLongestBody (is_escape language) inner.now result }
 {
     let mut at = 0;
     while at < inner.len() {
@@ -49,7 +38,7 @@ pub(crate) fn text(language: Language, rest: &[u8]) -> Stretch
     requires text { IsText rest.now }
     requires some { 0 < length rest.now }
     requires starts { IsTrue (is_quote (slice_index rest.now 0)) }
-    ensures stretch { result ≡ longest_front (text_form (is_escape_of language)) rest.now }
+    ensures stretch { result ≡ longest_front (text_form (is_escape language)) rest.now }
     ensures placed { IsPlaced result.form }
 {
     let inner = bytes_from(rest, 1);

@@ -3,25 +3,28 @@
 ghost use Rattle.std.specs.Prelude.{◌≡◌, ◌<◌, IsTrue, length, slice_index, codes};
 ghost use Rattle.dpi_lex.specs.declared.form.Form.TheVariants.{Whole};
 ghost use Rattle.dpi_lex.specs.declared.token.Kind.TheVariants.{Word};
-ghost use Rattle.dpi_lex.specs.Bytes.{is_among, is_name_start};
-ghost use Rattle.dpi_lex.specs.Languages.{is_dollar_name};
+ghost use Rattle.dpi_lex.specs.Bytes.{is_among, is_name_start, is_name_byte};
+ghost use Rattle.dpi_lex.specs.C.{is_dollar_name};
 ghost use Rattle.dpi_lex.specs.Shapes.{form_if, is_name};
 ghost use Rattle.dpi_lex.specs.Stretches.{longest_front, IsPlaced};
 
 use crate::bytes::{bytes_from, is_name_start, name_len};
 use crate::form::{Form, Stretch};
+use crate::language::Language;
 use crate::token::Kind;
 
 /// The name at the front of the bytes.
-pub(crate) fn name(rest: &[u8]) -> Stretch
+pub(crate) fn name(language: Language, rest: &[u8]) -> Stretch
     requires some { 0 < length rest.now }
     requires starts { IsTrue (is_name_start (slice_index rest.now 0)) }
-    ensures stretch { result ≡ longest_front (λ front. form_if (is_name front) (Whole Word)) rest.now }
+    ensures stretch { result ≡ longest_front
+        (λ front. form_if (is_name (is_name_byte language) front) (Whole Word))
+        rest.now }
     ensures placed { IsPlaced result.form }
 {
     Stretch {
         form: Form::Whole(Kind::Word),
-        len: name_len(rest),
+        len: name_len(language, rest),
     }
 }
 
@@ -41,6 +44,6 @@ pub(crate) fn dollar_name(rest: &[u8]) -> Stretch
     }
     Stretch {
         form: Form::Whole(Kind::Word),
-        len: 1 + name_len(after),
+        len: 1 + name_len(Language::C, after),
     }
 }

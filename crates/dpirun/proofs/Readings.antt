@@ -1,10 +1,10 @@
 -- What a refused file has for a text.
-use Rattle.std.proofs.Common.{◌≡◌, ◌≢◌, ℕ, ◌<◌, Bool, true, List, Option, Some, None, Result, Ok, Err, length, replicate, IfSome, IsSomeAnd, nat_lt, codes, refl, sym, ap, subst, ◌∙◌, arith}
+use Rattle.std.proofs.Common.{◌≡◌, ◌≢◌, ℕ, ◌<◌, true, List, Option, Some, None, Err, length, replicate, IsSomeAnd, nat_lt, codes, refl, ap, arith}
 use Rattle.std.proofs.lemmas.Bool.Decides.{nat_tests}
 use Rattle.std.specs.Prelude.{if◌then◌else◌}
 use Rattle.std.specs.Option.{ok_or}
 use Rattle.std.proofs.lemmas.List.{length-replicate}
-use Rattle.dpi_ports.specs.Told.{Contents, Holds, HoldsMore}
+use Rattle.dpi_ports.specs.Told.{Contents, HoldsMore}
 use Rattle.dpirun.specs.Answer.{read_as}
 use Rattle.dpirun.specs.Ends.{Reads}
 use Rattle.dpirun.specs.Refusals.{IsRefused, code_of}

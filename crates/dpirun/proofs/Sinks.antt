@@ -1,5 +1,5 @@
 -- What sinks took, one text after another.
-use Rattle.std.proofs.Common.{◌≡◌, ℕ, ◌≤◌, List, ◌++◌, Option, Some, Result, Ok, Err, OnOk, OnErr, length, take, take_all, refl, sym, ap, subst, ◌∙◌, append_assoc, append-nil, arith}
+use Rattle.std.proofs.Common.{ℕ, List, ◌++◌, Option, Some, Result, Ok, Err, OnOk, OnErr, length, take, take_all, sym, ap, subst, ◌∙◌, append_assoc, append-nil, arith}
 use Rattle.dpi_ports.specs.Told.{Takes, TakesFront}
 use Rattle.dpirun.specs.Ends.{TakesFronts}
 

@@ -1,13 +1,12 @@
 -- The answer of the program to its words and files.
-use Rattle.std.specs.Prelude.{◌≡◌, ℕ, ℤ, pos, negsuc, Bool, List, [], ◌∷◌, ◌++◌, Option, Some, None, Result, Ok, Err, nat_lt, length, map, codes, option_map, option_and_then, if◌then◌else◌}
+use Rattle.std.specs.Prelude.{ℕ, ℤ, pos, negsuc, List, [], ◌++◌, Option, Some, None, Result, Ok, Err, nat_lt, length, codes, option_map, option_and_then, if◌then◌else◌}
 use Rattle.std.specs.Fmt.{signed_decimal}
 use Rattle.std.specs.Option.{ok_or, option_map_or}
 use Rattle.std.specs.Result.{result_ok}
-use Rattle.std.specs.Str.{bytes_eq}
 use Rattle.dpi_lex.specs.Languages.{sv_lexed, c_lexed}
 use Rattle.dpi_lex.specs.Lexed.{Lexed}
 use Rattle.dpi_lex.specs.Place.{line_of, column_of}
-use Rattle.dpi_lex.specs.Words.{Word, words_of, place_of}
+use Rattle.dpi_lex.specs.Words.{words_of, place_of}
 use Rattle.dpi_ports.specs.Told.{Contents}
 use Rattle.dpi_text.specs.FaultLine.{fault_line_of}
 use Rattle.dpirun.specs.Command.{FileNames, command_of}

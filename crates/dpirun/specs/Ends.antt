@@ -1,7 +1,7 @@
 -- How a call of the program ends: with the answer, at a file that isn't read, or cut short.
 use Rattle.std.specs.Prelude.{◌≡◌, ◌⊎◌, ◌==◌, ℕ, List, [], ◌++◌, Option, Some, None, IfSome, Contains, take, codes, if◌then◌else◌}
 use Rattle.std.specs.Str.{bytes_eq}
-use Rattle.dpi_ports.specs.Told.{Contents, HasRisen, Holds, Takes, TakesFront}
+use Rattle.dpi_ports.specs.Told.{Contents, HasRisen, Holds, Takes}
 use Rattle.dpirun.specs.Answer.{Outcome, unread}
 
 -- contents that are the told ones, where they are told

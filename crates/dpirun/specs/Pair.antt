@@ -1,9 +1,9 @@
 -- The pair of files that the program runs: one import that adds.
-use Rattle.std.specs.Prelude.{ℕ, ℤ, ◌+ℤ◌, Bool, ◌&&◌, not, List, [], ◌∷◌, Option, Some, None, codes, option_map, option_and_then, if◌then◌else◌}
+use Rattle.std.specs.Prelude.{ℕ, ℤ, ◌+ℤ◌, ◌&&◌, not, List, [], ◌∷◌, Option, Some, None, codes, option_map, option_and_then, if◌then◌else◌}
 use Rattle.std.specs.Int.{cast_signed, w32}
 use Rattle.std.specs.Str.{bytes_eq}
 use Rattle.dpi_lex.specs.Words.{Word}
-use Rattle.dpirun.specs.Form.{holes_of, bytes_at}
+use Rattle.dpirun.specs.Form.{holes_of}
 use Rattle.dpirun.specs.Literal.{value_of}
 use Rattle.dpirun.specs.declared.pair.Call.{Call}
 use Rattle.dpirun.specs.declared.pair.Body.{Body}

@@ -1,5 +1,5 @@
 -- What a call of the program may end with, and what shows it.
-use Rattle.std.specs.Prelude.{◌≡◌, ℕ, List, [], Option, codes}
+use Rattle.std.specs.Prelude.{◌≡◌, ℕ, List, Option, codes}
 use Rattle.dpi_ports.specs.Told.{Contents, Takes, TakesFront}
 use Rattle.dpirun.specs.Answer.{Outcome, unread, refused, answer_of}
 use Rattle.dpirun.specs.Ends.{IsAnswer, IsUnread, IsDue, TakesFronts, last_line}

@@ -313,12 +313,18 @@ fn a_sink_that_fails_keeps_what_it_took(rt: HostRuntime) -> Result<(), Fail> {
     Ok(())
 }
 
-#[test]
-fn a_file_past_a_mebibyte_is_too_long(rt: HostRuntime) -> Result<(), Fail> {
-    let mut full = String::from_str(rt.alloc(), SV)?;
-    for _ in SV.len()..1_048_576 {
-        full.push_str(" ")?;
+// the SystemVerilog file with blanks behind it, up to so many bytes
+fn padded(alloc: Global, bytes: usize) -> Result<String, Fail> {
+    let mut text = String::from_str(alloc, SV)?;
+    for _ in SV.len()..bytes {
+        text.push_str(" ")?;
     }
+    Ok(text)
+}
+
+#[test]
+fn a_file_of_a_mebibyte_is_read(rt: HostRuntime) -> Result<(), Fail> {
+    let full = padded(rt.alloc(), 1_048_576)?;
     check(
         &rt,
         rt.alloc(),
@@ -326,13 +332,18 @@ fn a_file_past_a_mebibyte_is_too_long(rt: HostRuntime) -> Result<(), Fail> {
         Some(full.as_str()),
         Some(C),
         (0, "5\n", ""),
-    )?;
-    full.push_str(" ")?;
+    )
+}
+
+#[test]
+fn a_longer_file_is_too_long(rt: HostRuntime) -> Result<(), Fail> {
+    let long = padded(rt.alloc(), 1_048_577)?;
+    let text = long.as_str();
     check(
         &rt,
         rt.alloc(),
         ADD,
-        Some(full.as_str()),
+        Some(text),
         None,
         (1, "", "m.sv:1:1: TooLong\n"),
     )?;
@@ -341,7 +352,7 @@ fn a_file_past_a_mebibyte_is_too_long(rt: HostRuntime) -> Result<(), Fail> {
         rt.alloc(),
         ADD,
         Some(SV),
-        Some(full.as_str()),
+        Some(text),
         (1, "", "m.c:1:1: TooLong\n"),
     )
 }

@@ -3,7 +3,7 @@ use Rattle.std.specs.Prelude.{codes}
 use Rattle.dpi_lex.specs.declared.form.Form.TheVariants.{Whole}
 use Rattle.dpi_lex.specs.declared.token.Kind.TheVariants.{Sign}
 use Rattle.dpi_lex.specs.Bytes.{is_among}
-use Rattle.dpi_lex.specs.Languages.{is_sign}
+use Rattle.dpi_lex.specs.C.{is_sign}
 use Rattle.dpi_lex.proofs.SingleLemmas.{single, longest_front-single, longest_front-no_single}
 use Rattle.dpi_lex.proofs.signs.sign.Goals as goal
 

@@ -1,7 +1,7 @@
-use Rattle.std.proofs.Common.{◌≡◌, ◌≤◌, ◌<◌, ◌∙◌, ◌++◌, ℕ, List, [], Some, Bor, All, length, get_or, map, slice_get, ap, subst, sym, true, option_map, drop, suc, add-one, ◌+◌, ◌∷◌, arith}
+use Rattle.std.proofs.Common.{◌≡◌, ◌≤◌, ◌<◌, ◌∙◌, ◌++◌, ℕ, List, [], Some, Bor, All, length, get_or, map, slice_get, ap, subst, sym, option_map, drop, suc, add-one, arith}
 use Rattle.std.proofs.lemmas.List.{length-map}
 use Rattle.std.proofs.lemmas.List.Elements.{All-push}
-use Rattle.dpi_lex.specs.Words.{Word, word_of, words_of}
+use Rattle.dpi_lex.specs.Words.{Word, words_of}
 use Rattle.dpirun.specs.Form.{bytes_at, hole_of, holes_of}
 use Rattle.dpirun.proofs.Holes.{holes_of-lengths, holes_of-next, holes_of-stops, holes_of-whole, word_is, text_at, found_more, found_same}
 use Rattle.dpirun.proofs.form.holes.Goals as goal

@@ -1,4 +1,4 @@
-use Rattle.std.proofs.Common.{◌≡◌, ℕ, List, ◌++◌, ◌<◌, drop, map, option_map, length, All}
+use Rattle.std.proofs.Common.{◌≡◌, ◌++◌, ◌<◌, drop, map, option_map, length, All}
 use Rattle.dpi_lex.specs.Words.{words_of}
 use Rattle.dpirun.specs.Form.{bytes_at, holes_of}
 use Rattle.dpirun.proofs.form.holes.Given as goal

@@ -1,4 +1,4 @@
-use Rattle.std.proofs.Common.{◌≡◌, ◌∙◌, sym, arith}
+use Rattle.std.proofs.Common.{◌∙◌, sym}
 use Rattle.dpirun.proofs.Digits.{value_of-stops, value_of-whole, if-none}
 use Rattle.dpirun.proofs.literal.value.Goals as goal
 

@@ -1,7 +1,6 @@
-use Rattle.std.proofs.Common.{◌≡◌, Err, ap}
+use Rattle.std.proofs.Common.{Err, ap}
 use Rattle.std.proofs.lemmas.Result.{err_from_is_err_and}
-use Rattle.dpirun.specs.Answer.{call_in_text, sum_in_text}
-use Rattle.dpirun.specs.Pair.{call_shown}
+use Rattle.dpirun.specs.Answer.{call_in_text}
 use Rattle.dpirun.proofs.Readings.{reads_refused}
 use Rattle.dpirun.proofs.reading.read_call.Goals as goal
 

@@ -1,4 +1,4 @@
-use Rattle.std.proofs.Common.{◌≡◌, ◌∙◌, codes, sym, ap}
+use Rattle.std.proofs.Common.{◌∙◌, codes, sym, ap}
 use Rattle.dpirun.specs.Command.{is_file_of}
 use Rattle.dpirun.proofs.Endings.{names_differ}
 use Rattle.dpirun.proofs.command.Command.of.Goals as goal

@@ -1,4 +1,4 @@
-use Rattle.std.proofs.Common.{◌≡◌, ◌∙◌, ap, sym, List, ℕ, Option, Some, None, map, option_map}
+use Rattle.std.proofs.Common.{◌≡◌, ◌∙◌, ap, sym, List, Some, None, map, option_map}
 use Rattle.std.specs.Prelude.{option_and_then}
 use Rattle.dpi_lex.specs.Words.{Word, words_of}
 use Rattle.dpirun.specs.Form.{bytes_at, holes_of}

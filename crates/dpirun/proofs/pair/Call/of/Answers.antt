@@ -1,4 +1,4 @@
-use Rattle.std.proofs.Common.{◌≡◌, ◌∙◌, ap, sym, List, ℕ, Option, Some, None, map, option_map, subst, IfOk}
+use Rattle.std.proofs.Common.{◌≡◌, ◌∙◌, ap, sym, List, Option, Some, None, map, option_map, subst, IfOk}
 use Rattle.std.specs.Prelude.{option_and_then}
 use Rattle.dpi_lex.specs.Words.{Word, words_of}
 use Rattle.dpirun.specs.Form.{bytes_at, holes_of}
