@@ -1,0 +1,9 @@
+use Rattle.dpi_bits.proofs.Answered.{if_ok}
+use Rattle.dpi_bits.proofs.Arith.{product_is}
+use Rattle.dpi_bits.proofs.packed.Packed.mul.Goals as goal
+
+pub returns-in-Some-clause-bits : goal.returns-in-Some-clause-bits
+returns-in-Some-clause-bits c =
+    if_ok c.from_u64.result _ _
+    (product_is c.args.self.now c.args.other.now c.width.result c.in-Some.numbers.0 c.in-Some.numbers.1 c.width.ensures.bits c.requires.short c.in-Some.ensures.0 c.in-Some.ensures.1 c.in-Some.ensures.2)
+    c.from_u64.ensures.bits

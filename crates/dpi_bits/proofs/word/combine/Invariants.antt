@@ -1,0 +1,10 @@
+use Rattle.std.proofs.Common.{◌≡◌, ℕ, ◌*◌, ◌<◌, ◌≤◌}
+use Rattle.dpi_bits.specs.Bits.{table_bit}
+use Rattle.dpi_bits.specs.Words.{held}
+use Rattle.dpi_bits.proofs.word.combine.Given as goal
+
+abbrev pub invariant-loop-j : goal.invariant-loop-j
+invariant-loop-j l = record {
+  written : (i : ℕ) → i < 32 * l.j → held l.words i ≡ table_bit l.table (held l.fn.words i) (held l.other i);
+  rest : (i : ℕ) → 32 * l.j ≤ i → held l.words i ≡ held l.fn.words i;
+}

@@ -1,0 +1,11 @@
+pub mod Arithmetic
+pub mod Bits
+pub mod Compare
+pub mod Words
+pub mod Layout
+pub mod Laws
+pub mod Lists
+pub mod Numbers
+pub mod Parts
+pub mod Signed
+pub mod Sought
