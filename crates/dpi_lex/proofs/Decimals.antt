@@ -1,4 +1,5 @@
-use Rattle.std.proofs.Common.{◌≡◌, ℕ, ◌+◌, ◌*◌, ◌<◌, ◌≤◌, true, false, cond, List, [], ◌∷◌, length, take, drop, get_or, ap, sym, ◌∙◌, arith}
+use Rattle.std.proofs.Common.{◌≡◌, ℕ, ◌+◌, ◌*◌, ◌<◌, ◌≤◌, true, false, cond, List, [], ◌∷◌, length}
+use Rattle.std.proofs.Common.{take, drop, get_or, ap, sym, ◌∙◌, arith}
 use Rattle.std.specs.Prelude.{fold, nat_lt}
 use Rattle.std.proofs.lemmas.Bool.Decides.{nat_tests}
 use Rattle.std.proofs.lemmas.Grind.{fold-append}
@@ -31,17 +32,23 @@ value_from-ge base v (b ∷ xs) some =
     omega (arith, next_value-ge base v b some, value_from-ge base (next_value base v b) xs some)
 
 -- a front's value is at most the whole's
-pub value_in-take : (base : ℕ) (xs : List ℕ) (i : ℕ) → 0 < base → value_in base (take i xs) ≤ value_in base xs
+pub value_in-take : (base : ℕ) (xs : List ℕ) (i : ℕ) → 0 < base →
+    value_in base (take i xs) ≤ value_in base xs
 value_in-take base xs i some =
-    let whole : value_in base xs ≡ fold (next_value base) (value_in base (take i xs)) (drop i xs) = ap (value_in base) (sym (take-append-drop i xs)) ∙ fold-append (next_value base) 0 (take i xs) (drop i xs) in
+    let whole : value_in base xs ≡ fold (next_value base) (value_in base (take i xs)) (drop i xs) =
+    ap (value_in base) (sym (take-append-drop i xs))
+    ∙ fold-append (next_value base) 0 (take i xs) (drop i xs) in
     omega (arith, whole, value_from-ge base (value_in base (take i xs)) (drop i xs) some)
 
 -- one more byte
-pub value_in-more : (base : ℕ) (xs : List ℕ) (i : ℕ) → i < length xs → value_in base (take (i + 1) xs) ≡ next_value base (value_in base (take i xs)) (get_or xs i 0)
+pub value_in-more : (base : ℕ) (xs : List ℕ) (i : ℕ) → i < length xs →
+    value_in base (take (i + 1) xs) ≡ next_value base (value_in base (take i xs)) (get_or xs i 0)
 value_in-more base xs i lt =
-    ap (value_in base) (take_more xs i 0 lt) ∙ fold-append (next_value base) 0 (take i xs) (get_or xs i 0 ∷ [])
+    ap (value_in base) (take_more xs i 0 lt)
+    ∙ fold-append (next_value base) 0 (take i xs) (get_or xs i 0 ∷ [])
 
-pub next_value-digit : (base v b : ℕ) → is_digit_in base b ≡ true → next_value base v b ≡ v * base + digit_value b
+pub next_value-digit : (base v b : ℕ) → is_digit_in base b ≡ true →
+    next_value base v b ≡ v * base + digit_value b
 next_value-digit base v b h = ap (λ t. cond t (v * base + digit_value b) v) h
 
 pub next_value-other : (base v b : ℕ) → is_digit_in base b ≡ false → next_value base v b ≡ v

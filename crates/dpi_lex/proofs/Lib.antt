@@ -1,11 +1,14 @@
 pub mod Bodies
 pub mod CClasses
+pub mod CNumberLemmas
+pub mod CharacterLemmas
 pub mod Classes
 pub mod CommentLemmas
 pub mod Decimals
+pub mod DefineLemmas
 pub mod Fronts
+pub mod HashLemmas
 pub mod Longest
-pub mod NumberLemmas
 pub mod PlaceLemmas
 pub mod Reading
 pub mod Runs

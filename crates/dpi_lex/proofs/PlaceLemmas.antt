@@ -8,6 +8,12 @@ abbrev pub stays_on_line : ℕ → Bool
 stays_on_line byte = not (is_line_feed byte)
 
 -- what stands after the last line feed is the longest end without one
-pub length-after_last : (xs : List ℕ) → length (after_last is_line_feed xs) ≡ suffix_len stays_on_line xs
+pub length-after_last : (xs : List ℕ) →
+    length (after_last is_line_feed xs) ≡ suffix_len stays_on_line xs
 length-after_last xs =
-    omega (arith, length-drop (length xs - suffix_len stays_on_line xs) xs, suffix_len-le-length stays_on_line xs)
+    omega (
+      arith,
+      length-drop (length xs - suffix_len stays_on_line xs) xs,
+      suffix_len-le-length
+          stays_on_line xs,
+    )

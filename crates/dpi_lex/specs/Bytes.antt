@@ -1,4 +1,4 @@
-use Rattle.std.specs.Prelude.{ℕ, Bool, false, List, ◌==◌, ◌||◌, ◌&&◌, ◌-◌, if◌then◌else◌, nat_le, codes}
+use Rattle.std.specs.Prelude.{ℕ, Bool, List, ◌==◌, ◌||◌, ◌&&◌, ◌-◌, if◌then◌else◌, nat_le, codes}
 use Rattle.std.specs.List.{list_any}
 use Rattle.dpi_lex.specs.declared.language.Language.{Language}
 use Rattle.dpi_lex.specs.declared.language.Language.TheVariants.{SystemVerilog, C}
@@ -55,7 +55,7 @@ is_backslash b = is_among (codes "\\") b
 -- what may follow a backslash
 abbrev pub is_escape : Language → ℕ → Bool
 is_escape SystemVerilog b = is_among (codes "nt\\\"") b
-is_escape C b = false
+is_escape C b = is_among (codes "nt\\'\"0") b
 
 -- the value of a digit in any base: letters of either case go on from 10; 36 where it's none
 abbrev pub digit_value : ℕ → ℕ

@@ -1,46 +1,68 @@
-use Rattle.std.specs.Prelude.{ℕ, Bool, false, Option, List, [], ◌∷◌, ◌&&◌, nat_le, codes}
-use Rattle.std.specs.List.{list_all}
+use Rattle.std.specs.Prelude.{ℕ, Bool, Option, None, List, [], ◌∷◌, ◌++◌, ◌&&◌, ◌||◌, not}
+use Rattle.std.specs.Prelude.{if◌then◌else◌, slice_index, codes}
+use Rattle.dpi_lex.specs.declared.fault.LexFault.TheVariants.{BadByte}
 use Rattle.dpi_lex.specs.declared.form.Form.{Form}
-use Rattle.dpi_lex.specs.declared.form.Form.TheVariants.{Skipped, Whole}
+use Rattle.dpi_lex.specs.declared.form.Form.TheVariants.{Skipped, Whole, Faulty}
 use Rattle.dpi_lex.specs.declared.language.Language.TheVariants.{C}
-use Rattle.dpi_lex.specs.declared.token.Kind.TheVariants.{Word, Sign}
-use Rattle.dpi_lex.specs.Bytes.{is_among, is_digit, is_name_byte, is_escape}
-use Rattle.dpi_lex.specs.Digits.{value_in}
-use Rattle.dpi_lex.specs.Shapes.{form_if, first_form, is_space, is_name, text_form}
+use Rattle.dpi_lex.specs.declared.token.Kind.TheVariants.{Character, Word, Sign}
+use Rattle.dpi_lex.specs.Bytes.{is_apostrophe, is_backslash, is_name_byte, is_escape}
+use Rattle.dpi_lex.specs.CNumbers.{c_number_form}
+use Rattle.dpi_lex.specs.Define.{define_form}
+use Rattle.dpi_lex.specs.Place.{is_line_feed}
+use Rattle.dpi_lex.specs.Shapes.{form_if, first_form, is_space, is_line_of, block_form, is_name}
+use Rattle.dpi_lex.specs.Shapes.{is_listed, texts, text_form}
 use Rattle.dpi_lex.specs.Stretches.{Forms}
-use Rattle.dpi_lex.specs.SvNumbers.{number_if}
 
--- a `$` and a name
-abbrev pub is_dollar_name : List ℕ → Bool
-is_dollar_name [] = false
-is_dollar_name (b ∷ more) = is_among (codes "$") b && is_name (is_name_byte C) more
+-- a byte that stands for itself in a character
+abbrev pub is_character_byte : ℕ → Bool
+is_character_byte b = not (is_apostrophe b || is_backslash b || is_line_feed b)
 
--- digits alone, at least one
-abbrev pub is_digits : List ℕ → Bool
-is_digits [] = false
-is_digits (b ∷ more) = list_all is_digit (b ∷ more)
+-- a byte or an escape between `'`; a `'` and a backslash with which no escape begins are a fault
+abbrev pub character_form : List ℕ → List ℕ → Option Form
+character_form (a ∷ s ∷ []) after =
+    form_if
+    (is_apostrophe a && is_backslash s && not (is_escape C (slice_index after 0)))
+    (Faulty (BadByte 1))
+character_form (a ∷ b ∷ z ∷ []) after =
+    form_if (is_apostrophe a && is_character_byte b && is_apostrophe z) (Whole Character)
+character_form (a ∷ s ∷ e ∷ z ∷ []) after =
+    form_if
+    (is_apostrophe a && is_backslash s && is_escape C e && is_apostrophe z)
+    (Whole Character)
+character_form bytes after = None
 
--- digits whose value fits in 32 bits
-abbrev pub plain_number : List ℕ → Form
-plain_number bytes = number_if (nat_le (value_in 10 bytes) 4294967295)
+-- the form of a character, wherever it stands
+abbrev pub character_forms : Forms
+character_forms begins bytes after = character_form bytes after
 
--- a stretch of digits alone
-abbrev pub number_form : List ℕ → Option Form
-number_form bytes = form_if (is_digits bytes) (plain_number bytes)
+-- the signs, the longest first
+unfoldable pub c_signs : List (List ℕ)
+c_signs =
+    texts (codes "<<= >>=")
+    ++ texts (codes "++ -- += -= *= /= %= &= |= ^= << >> <= >= == != && || ->")
+    ++ texts (codes "( ) { } [ ] ; , = * + - ! ~ & / % < > ^ | . ? :")
 
--- one of the signs
-abbrev pub is_sign : List ℕ → Bool
-is_sign [] = false
-is_sign (b ∷ []) = is_among (codes "(){};,+") b
-is_sign (b ∷ c ∷ more) = false
+-- the form of a define, wherever it stands
+abbrev pub define_forms : Forms
+define_forms begins bytes after = define_form bytes after
 
--- what a stretch is: skipped, a word, a number, a string or a sign
+-- what begins with a `#`: at the beginning of a line a line that is skipped, or a define
+abbrev pub hash_forms : Forms
+hash_forms begins bytes after =
+    first_form (form_if (begins && is_line_of (codes "#include") bytes) Skipped
+    ∷ (if begins then define_form bytes after else None)
+    ∷ [])
+
+-- what a stretch is: skipped, a define, a word, a number, a character, a string or a sign
 abbrev pub c_forms : Forms
 c_forms begins bytes after =
     first_form (form_if (is_space bytes) Skipped
+    ∷ form_if (is_line_of (codes "//") bytes) Skipped
+    ∷ block_form bytes
+    ∷ hash_forms begins bytes after
     ∷ form_if (is_name (is_name_byte C) bytes) (Whole Word)
-    ∷ form_if (is_dollar_name bytes) (Whole Word)
-    ∷ number_form bytes
+    ∷ c_number_form bytes
+    ∷ character_form bytes after
     ∷ text_form (is_escape C) bytes
-    ∷ form_if (is_sign bytes) (Whole Sign)
+    ∷ form_if (is_listed c_signs bytes) (Whole Sign)
     ∷ [])

@@ -1,5 +1,7 @@
 pub mod Bytes
 pub mod C
+pub mod CNumbers
+pub mod Define
 pub mod Digits
 pub mod Languages
 pub mod Lexed

@@ -1,11 +1,13 @@
-use Rattle.std.specs.Prelude.{ℕ, Bool, true, false, Option, Some, None, List, [], ◌∷◌, ◌++◌, ◌-◌, ◌≡◌, ◌<◌, ◌≤◌, ◌&&◌, ◌||◌, not, if◌then◌else◌, length, take, drop, slice_index, codes, nat_eq}
-use Rattle.std.specs.List.{list_all, list_any, starts_with}
+use Rattle.std.specs.Prelude.{ℕ, Bool, true, false, Option, Some, None, List, [], ◌∷◌, ◌++◌, ◌-◌}
+use Rattle.std.specs.Prelude.{◌≡◌, ◌<◌, ◌≤◌, ◌&&◌, ◌||◌, not, if◌then◌else◌, length, take, drop}
+use Rattle.std.specs.Prelude.{slice_index, codes, nat_eq}
+use Rattle.std.specs.List.{list_all, list_any, prefix_len, starts_with}
 use Rattle.std.specs.Option.{option_or}
 use lib.Pointwise.{pointwise}
 use Rattle.dpi_lex.specs.declared.fault.LexFault.TheVariants.{BadByte, Unclosed}
 use Rattle.dpi_lex.specs.declared.form.Form.{Form}
 use Rattle.dpi_lex.specs.declared.form.Form.TheVariants.{Skipped, Whole, Faulty}
-use Rattle.dpi_lex.specs.declared.token.Kind.TheVariants.{Text}
+use Rattle.dpi_lex.specs.declared.token.Kind.TheVariants.{Text, Sign}
 use Rattle.dpi_lex.specs.Bytes.{is_among, is_blank, is_name_start, is_quote, is_backslash}
 use Rattle.dpi_lex.specs.Place.{is_line_feed}
 
@@ -17,6 +19,10 @@ form_if test form = if test then Some form else None
 abbrev pub first_form : List (Option Form) → Option Form
 first_form [] = None
 first_form (form ∷ forms) = option_or form (first_form forms)
+
+-- the bytes behind those at the front that pass
+abbrev pub behind : (ℕ → Bool) → List ℕ → List ℕ
+behind test bytes = drop (prefix_len test bytes) bytes
 
 -- one blank or line end
 abbrev pub is_space : List ℕ → Bool
@@ -81,7 +87,9 @@ abbrev pub is_body : (ℕ → Bool) → Bool → List ℕ → Bool
 is_body is_escape false [] = true
 is_body is_escape true [] = false
 is_body is_escape false (b ∷ more) =
-    if is_backslash b then is_body is_escape true more else is_plain b && is_body is_escape false more
+    if is_backslash b
+    then is_body is_escape true more
+    else is_plain b && is_body is_escape false more
 is_body is_escape true (b ∷ more) = is_escape b && is_body is_escape false more
 
 -- a byte that ends a string: a quote, or a backslash of no escape
@@ -108,3 +116,11 @@ pub record IsLongestBody (is_escape : ℕ → Bool) (inner : List ℕ) (n : ℕ)
   pub within : n ≤ length inner
   pub body : is_body is_escape false (take n inner) ≡ true
   pub longest : (m : ℕ) → n < m → m ≤ length inner → is_body is_escape false (take m inner) ≡ false
+
+-- what begins with a `/`: a comment or a sign
+abbrev pub slash_form : List (List ℕ) → List ℕ → Option Form
+slash_form signs bytes =
+    first_form (form_if (is_line_of (codes "//") bytes) Skipped
+    ∷ block_form bytes
+    ∷ form_if (is_listed signs bytes) (Whole Sign)
+    ∷ [])

@@ -1,15 +1,18 @@
-use Rattle.std.specs.Prelude.{◌≡◌, ◌⊎◌, ℕ, Bool, Option, Some, None, Result, Ok, Err, List, [], ◌∷◌, ◌++◌, ◌+◌, ◌-◌, ◌<◌, ◌≤◌, ◌||◌, ◌==◌, zero, suc, nat_lt, if◌then◌else◌, length, take, drop, slice_index}
+use Rattle.std.specs.Prelude.{◌≡◌, ◌⊎◌, ℕ, Bool, Option, Some, None, Result, Ok, Err, List, [], ◌∷◌}
+use Rattle.std.specs.Prelude.{◌++◌, ◌+◌, ◌-◌, ◌<◌, ◌≤◌, ◌||◌, ◌==◌, zero, suc, nat_lt}
+use Rattle.std.specs.Prelude.{if◌then◌else◌, length, take, drop, slice_index}
 use Rattle.std.specs.Option.{option_map_or}
 use Rattle.std.specs.Result.{result_map_both}
 use Rattle.dpi_lex.specs.declared.fault.LexFault.{LexFault}
-use Rattle.dpi_lex.specs.declared.fault.LexFault.TheVariants.{BadByte, BadNumber, Unclosed, NoMemory}
+use Rattle.dpi_lex.specs.declared.fault.LexFault.TheVariants.{BadByte, BadNumber, Unclosed}
+use Rattle.dpi_lex.specs.declared.fault.LexFault.TheVariants.{NoMemory}
 use Rattle.dpi_lex.specs.declared.form.Form.{Form}
 use Rattle.dpi_lex.specs.declared.form.Form.TheVariants.{Skipped, Whole, Faulty}
 use Rattle.dpi_lex.specs.declared.form.Stretch.{Stretch}
 use Rattle.dpi_lex.specs.declared.token.Token.{Token}
 use Rattle.dpi_lex.specs.Place.{is_line_feed}
 
--- what a language says of a whole stretch of bytes: its form, where it has one. It is told whether
+-- what a language says of a whole stretch of bytes: its form, where it has one. It's told whether
 -- the stretch begins a line, the stretch, and the bytes that follow it
 abbrev pub Forms : Type 0
 Forms = Bool → List ℕ → List ℕ → Option Form
@@ -22,7 +25,10 @@ bad_byte = record { form = Faulty (BadByte 0); len = 1 }
 unfoldable pub longest : (ℕ → Option Form) → ℕ → Stretch
 longest form_of zero = bad_byte
 longest form_of (suc n) =
-    option_map_or (λ form. record { form = form; len = suc n }) (form_of (suc n)) (longest form_of n)
+    option_map_or
+    (λ form. record { form = form; len = suc n })
+    (form_of (suc n))
+    (longest form_of n)
 
 -- the longest stretch at the front of the bytes, where its form depends on it alone
 abbrev pub longest_front : (List ℕ → Option Form) → List ℕ → Stretch

@@ -1,16 +1,13 @@
-use Rattle.std.specs.Prelude.{ℕ, Bool, true, false, Option, List, [], ◌∷◌, ◌-◌, ◌≡◌, ◌≤◌, ◌==◌, ◌&&◌, ◌||◌, not, nat_lt, nat_le, if◌then◌else◌, length, take, drop, slice_index, codes, count_by}
+use Rattle.std.specs.Prelude.{ℕ, Bool, true, false, Option, List, [], ◌∷◌, ◌-◌, ◌≡◌, ◌≤◌, ◌==◌}
+use Rattle.std.specs.Prelude.{◌&&◌, ◌||◌, not, nat_lt, nat_le, if◌then◌else◌, length, take, drop}
+use Rattle.std.specs.Prelude.{slice_index, codes, count_by}
 use Rattle.std.specs.List.{list_all, list_any, prefix_len}
-use Rattle.dpi_lex.specs.declared.fault.LexFault.TheVariants.{BadNumber}
 use Rattle.dpi_lex.specs.declared.form.Form.{Form}
-use Rattle.dpi_lex.specs.declared.form.Form.TheVariants.{Whole, Faulty}
+use Rattle.dpi_lex.specs.declared.form.Form.TheVariants.{Whole}
 use Rattle.dpi_lex.specs.declared.token.Kind.TheVariants.{Number}
 use Rattle.dpi_lex.specs.Bytes.{is_among, is_digit, is_letter, is_underscore, is_apostrophe}
-use Rattle.dpi_lex.specs.Digits.{is_digit_in, value_in, ends_in_digit}
+use Rattle.dpi_lex.specs.Digits.{is_digit_in, value_in, ends_in_digit, number_if}
 use Rattle.dpi_lex.specs.Shapes.{form_if, first_form}
-
--- a token where the rules of numbers hold, else a bad number
-abbrev pub number_if : Bool → Form
-number_if test = if test then Whole Number else Faulty (BadNumber 0)
 
 -- what a plain number or a size goes on with
 abbrev pub is_plain_byte : ℕ → Bool
@@ -87,21 +84,33 @@ is_base_and_digits after =
 -- no size, or one that is spelled like a plain number, from 1 to 1,024
 abbrev pub is_size : List ℕ → Bool
 is_size size =
-    (length size == 0) || (ends_in_digit size && nat_le 1 (value_in 10 size) && nat_le (value_in 10 size) 1024)
+    (length size == 0)
+    || (ends_in_digit size && nat_le 1 (value_in 10 size) && nat_le (value_in 10 size) 1024)
 
 -- a digit of which each bit is unknown or open
 abbrev pub is_four_state : ℕ → Bool
 is_four_state b = is_among (codes "xXzZ?") b
 
+-- how many of the bytes aren't a `_`
+abbrev pub given_len : List ℕ → ℕ
+given_len digits = count_by (λ b. not (is_underscore b)) digits
+
+-- what may stand among the digits of a base
+abbrev pub is_given_in : ℕ → ℕ → Bool
+is_given_in base b = is_digit_in base b || is_four_state b || is_underscore b
+
 -- a four-state digit alone, or decimal digits whose value fits in 64 bits; `_` may stand anywhere
 abbrev pub are_decimal_digits : List ℕ → Bool
 are_decimal_digits digits =
-    (count_by (λ b. not (is_underscore b)) digits == 1 && list_any is_four_state digits) || (list_any is_digit digits && list_all is_plain_byte digits && nat_le (value_in 10 digits) 18446744073709551615)
+    (given_len digits == 1 && list_any is_four_state digits)
+    || (list_any is_digit digits
+    && list_all is_plain_byte digits
+    && nat_le (value_in 10 digits) 18446744073709551615)
 
 -- digits of the base or four-state ones, at least one; `_` may stand anywhere
 abbrev pub are_digits_in : ℕ → List ℕ → Bool
 are_digits_in base digits =
-    nat_lt 0 (count_by (λ b. not (is_underscore b)) digits) && list_all (λ b. is_digit_in base b || is_four_state b || is_underscore b) digits
+    nat_lt 0 (given_len digits) && list_all (is_given_in base) digits
 
 -- what a base asks of its digits
 abbrev pub are_digits : ℕ → List ℕ → Bool

@@ -1,21 +1,24 @@
-use Rattle.std.specs.Prelude.{ℕ, Option, List, [], ◌∷◌, ◌&&◌, codes}
+use Rattle.std.specs.Prelude.{ℕ, Option, List, [], ◌∷◌, ◌++◌, ◌&&◌, codes}
 use Rattle.dpi_lex.specs.declared.form.Form.{Form}
 use Rattle.dpi_lex.specs.declared.form.Form.TheVariants.{Skipped, Whole}
 use Rattle.dpi_lex.specs.declared.language.Language.TheVariants.{SystemVerilog}
 use Rattle.dpi_lex.specs.declared.token.Kind.TheVariants.{Word, Sign}
 use Rattle.dpi_lex.specs.Bytes.{is_name_byte, is_escape}
-use Rattle.dpi_lex.specs.Shapes.{form_if, first_form, is_space, is_line_of, block_form, is_name, is_listed, texts, text_form}
+use Rattle.dpi_lex.specs.Shapes.{form_if, first_form, is_space, is_line_of, block_form, is_name}
+use Rattle.dpi_lex.specs.Shapes.{is_listed, texts, text_form}
 use Rattle.dpi_lex.specs.Stretches.{Forms}
 use Rattle.dpi_lex.specs.SvNumbers.{sv_number_form}
 
--- the system names
+-- the system names, the longest first
 unfoldable pub system_names : List (List ℕ)
 system_names = texts (codes "$unsigned $display $finish $signed $write")
 
--- the signs
+-- the signs, the longest first
 unfoldable pub sv_signs : List (List ℕ)
 sv_signs =
-    texts (codes "<<< >>> <<= >>= === !== '{ += -= *= /= %= &= |= ^= ++ -- +: -: ~& ~| ~^ ^~ << >> <= >= == != && || ( ) [ ] { } ' ; : , . # @ ? = + - * / % ! ~ & | ^ < >")
+    texts (codes "<<< >>> <<= >>= === !==")
+    ++ texts (codes "'{ += -= *= /= %= &= |= ^= ++ -- +: -: ~& ~| ~^ ^~ << >> <= >= == != && ||")
+    ++ texts (codes "( ) [ ] { } ' ; : , . # @ ? = + - * / % ! ~ & | ^ < >")
 
 -- what a stretch is: skipped, a word, a number, a string or a sign
 abbrev pub sv_forms : Forms
@@ -28,14 +31,6 @@ sv_forms begins bytes after =
     ∷ form_if (is_listed system_names bytes) (Whole Word)
     ∷ sv_number_form bytes
     ∷ text_form (is_escape SystemVerilog) bytes
-    ∷ form_if (is_listed sv_signs bytes) (Whole Sign)
-    ∷ [])
-
--- what begins with a `/`: a comment or a sign
-abbrev pub slash_form : List ℕ → Option Form
-slash_form bytes =
-    first_form (form_if (is_line_of (codes "//") bytes) Skipped
-    ∷ block_form bytes
     ∷ form_if (is_listed sv_signs bytes) (Whole Sign)
     ∷ [])
 

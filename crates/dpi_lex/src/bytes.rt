@@ -7,10 +7,16 @@ ghost use Rattle.dpi_lex.specs.Place.{is_line_feed};
 
 use crate::language::Language;
 
+pub(crate) fn is_blank(b: u8) -> bool
+    ensures { result ≡ spec.is_blank b }
+{
+    b == b' ' || b == b'\t' || b == b'\r'
+}
+
 pub(crate) fn is_space(b: u8) -> bool
     ensures { result ≡ (spec.is_blank b || is_line_feed b) }
 {
-    b == b' ' || b == b'\t' || b == b'\r' || b == b'\n'
+    is_blank(b) || b == b'\n'
 }
 
 pub(crate) fn is_digit(b: u8) -> bool
@@ -47,7 +53,9 @@ pub(crate) fn is_escape(language: Language, b: u8) -> bool
 {
     match language {
         Language::SystemVerilog => b == b'n' || b == b't' || b == b'\\' || b == b'"',
-        Language::C => false,
+        Language::C => {
+            b == b'n' || b == b't' || b == b'\\' || b == b'\'' || b == b'"' || b == b'0'
+        }
     }
 }
 
@@ -58,12 +66,15 @@ pub(crate) fn byte_at(bytes: &[u8], i: usize) -> u8
     if i < bytes.len() { bytes[i] } else { 0 }
 }
 
-/// The bytes from a place on.
+/// The bytes from a place on, at most to the end.
 pub(crate) fn bytes_from(bytes: &[u8], place: usize) -> &[u8]
-    requires { place ≤ length bytes.now }
     ensures { result.now ≡ drop place bytes.now }
 {
-    &bytes[place..]
+    if place < bytes.len() {
+        &bytes[place..]
+    } else {
+        &bytes[bytes.len()..]
+    }
 }
 
 /// How many bytes at the front belong to a name.
@@ -76,12 +87,12 @@ pub(crate) fn name_len(language: Language, rest: &[u8]) -> usize
         .count()
 }
 
-/// How many digits stand at the front.
-pub(crate) fn digits_len(rest: &[u8]) -> usize
-    ensures run { result ≡ prefix_len spec.is_digit rest.now }
+/// How many blanks stand at the front.
+pub(crate) fn blanks_len(rest: &[u8]) -> usize
+    ensures run { result ≡ prefix_len spec.is_blank rest.now }
     ensures within { result ≤ length rest.now }
 {
-    rest.iter().take_while(|b| is_digit(**b)).count()
+    rest.iter().take_while(|b| is_blank(**b)).count()
 }
 
 /// How many bytes the line has from the front on, without the line feed.

@@ -1,10 +1,14 @@
-//! Digits and their value.
+//! Digits, their value, and what a number is.
 
 ghost use Rattle.std.specs.Prelude.{◌≡◌, ◌≤◌, ◌<◌, nat_le};
 ghost use Rattle.dpi_lex.specs.Bytes.{digit_value};
-ghost use Rattle.dpi_lex.specs.Digits.{is_digit_in, value_in, ends_in_digit};
+ghost use Rattle.dpi_lex.specs.Digits.{is_digit_in, value_in, ends_in_digit, number_if};
+ghost use Rattle.dpi_lex.specs.Stretches.{IsPlaced};
 
 use crate::bytes::is_digit;
+use crate::fault::LexFault;
+use crate::form::Form;
+use crate::token::Kind;
 
 /// The value of a digit in any base up to 36; 36 where it's none.
 fn digit_value(b: u8) -> u8
@@ -51,4 +55,16 @@ pub(crate) fn ends_in_digit(bytes: &[u8]) -> bool
         return false;
     }
     is_digit(bytes[bytes.len() - 1])
+}
+
+/// A token where the rules of numbers hold, else a bad number.
+pub(crate) fn number_if(good: bool) -> Form
+    ensures form { result ≡ number_if good }
+    ensures placed { IsPlaced result }
+{
+    if good {
+        Form::Whole(Kind::Number)
+    } else {
+        Form::Faulty(LexFault::BadNumber { place: 0 })
+    }
 }

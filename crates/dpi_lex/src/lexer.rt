@@ -1,10 +1,12 @@
 //! The tokens of a text, from its beginning to its end.
 
-ghost use Rattle.std.specs.Prelude.{◌≡◌, ◌<◌, ◌≤◌, ◌+◌, ◌||◌, ◌==◌, ◌-◌, [], ◌∷◌, ◌++◌, Ok, Err, length, slice_index, IfOk, IfErr, OnOk};
+ghost use Rattle.std.specs.Prelude.{◌≡◌, ◌<◌, ◌≤◌, ◌+◌, ◌||◌, ◌==◌, ◌-◌, [], ◌∷◌, ◌++◌, Ok, Err};
+ghost use Rattle.std.specs.Prelude.{length, slice_index, IfOk, IfErr, OnOk};
 ghost use Rattle.dpi_lex.specs.declared.fault.LexFault.TheVariants.{NoMemory};
 ghost use Rattle.dpi_lex.specs.Languages.{forms_of, sv_lexed, c_lexed};
 ghost use Rattle.dpi_lex.specs.Lexed.{IsText};
-ghost use Rattle.dpi_lex.specs.Stretches.{front_of, begins_line, stretch_at, fault_place, fault_from, lexed, IsPlaced, IsRefusal};
+ghost use Rattle.dpi_lex.specs.Stretches.{front_of, begins_line, stretch_at, fault_place};
+ghost use Rattle.dpi_lex.specs.Stretches.{fault_from, lexed, IsPlaced, IsRefusal};
 
 use crate::bytes::bytes_from;
 use crate::c_front::c_front;

@@ -1,10 +1,16 @@
-//! Texts of a list at the front of some bytes.
+//! Texts of a list.
 
-ghost use Rattle.std.specs.Prelude.{◌≡◌, ◌≤◌, length, map};
-ghost use Rattle.dpi_lex.specs.Listed.{listed};
+ghost use Rattle.std.specs.Prelude.{◌≡◌, IsTrue, map, nat_eq};
+ghost use Rattle.dpi_lex.specs.declared.form.Form.TheVariants.{Whole};
+ghost use Rattle.dpi_lex.specs.Listed.{listed, listed_stretch, falls};
+ghost use Rattle.dpi_lex.specs.Shapes.{form_if, is_listed};
+ghost use Rattle.dpi_lex.specs.Stretches.{longest_front, IsPlaced};
+
+use crate::form::{Form, Stretch};
+use crate::token::Kind;
 
 /// The length of the first text of the list with which the bytes begin; 0 where there is none.
-pub(crate) fn listed(list: &[&[u8]], rest: &[u8]) -> usize
+fn listed(list: &[&[u8]], rest: &[u8]) -> usize
     ensures { result ≡ listed (map (λ text. text.now) list.now) rest.now }
 {
     for text in list {
@@ -13,4 +19,42 @@ pub(crate) fn listed(list: &[&[u8]], rest: &[u8]) -> usize
         }
     }
     0
+}
+
+/// Whether the bytes are a text of the list.
+pub(crate) fn is_listed(list: &[&[u8]], bytes: &[u8]) -> bool
+    ensures { result ≡ is_listed (map (λ text. text.now) list.now) bytes.now }
+{
+    for text in list {
+        if bytes == *text {
+            return true;
+        }
+    }
+    false
+}
+
+/// The token of that many bytes; a bad byte for none.
+fn token_of(kind: Kind, len: usize) -> Stretch
+    ensures stretch { result ≡ listed_stretch kind len }
+    ensures placed { IsPlaced result.form }
+{
+    if len == 0 {
+        return Stretch::bad_byte();
+    }
+    Stretch {
+        form: Form::Whole(kind),
+        len,
+    }
+}
+
+/// The text of the list at the front of the bytes, as a token of that kind. The longest texts come
+/// first in the list.
+pub(crate) fn listed_token(kind: Kind, list: &[&[u8]], rest: &[u8]) -> Stretch
+    requires { IsTrue (falls (map (λ text. text.now) list.now)) }
+    ensures stretch { result ≡ longest_front
+        (λ front. form_if (is_listed (map (λ text. text.now) list.now) front) (Whole kind))
+        rest.now }
+    ensures placed { IsPlaced result.form }
+{
+    token_of(kind, listed(list, rest))
 }

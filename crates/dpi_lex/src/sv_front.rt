@@ -5,17 +5,16 @@ ghost use Rattle.dpi_lex.specs.declared.form.Form.TheVariants.{Skipped, Whole};
 ghost use Rattle.dpi_lex.specs.declared.token.Kind.TheVariants.{Word, Sign};
 ghost use Rattle.dpi_lex.specs.Bytes.{is_among, is_apostrophe};
 ghost use Rattle.dpi_lex.specs.Lexed.{IsText};
-ghost use Rattle.dpi_lex.specs.Listed.{listed_stretch};
-ghost use Rattle.dpi_lex.specs.Shapes.{form_if, is_line_of, is_listed};
+ghost use Rattle.dpi_lex.specs.Shapes.{form_if, is_line_of, is_listed, slash_form};
 ghost use Rattle.dpi_lex.specs.Stretches.{front_of, longest_front, IsPlaced};
-ghost use Rattle.dpi_lex.specs.SystemVerilog.{sv_forms, sv_signs, system_names, slash_form, apostrophe_form};
+ghost use Rattle.dpi_lex.specs.SystemVerilog.{sv_forms, sv_signs, system_names, apostrophe_form};
 
 use crate::bytes::{byte_at, is_digit, is_name_start, is_space};
-use crate::comments::{block_comment, line};
+use crate::comments::{line, slash};
 use crate::form::{Form, Stretch};
 use crate::language::Language;
-use crate::listed::listed;
-use crate::signs::space;
+use crate::listed::listed_token;
+use crate::spaces::space;
 use crate::sv_numbers::{based, sv_number};
 use crate::texts::text;
 use crate::token::Kind;
@@ -40,26 +39,14 @@ fn is_fill_letter(b: u8) -> bool
     b == b'0' || b == b'1' || b == b'x' || b == b'z'
 }
 
-/// The token of that many bytes; a bad byte for none.
-fn listed_token(kind: Kind, len: usize) -> Stretch
-    ensures stretch { result ≡ listed_stretch kind len }
-    ensures placed { IsPlaced result.form }
-{
-    if len == 0 {
-        return Stretch::bad_byte();
-    }
-    Stretch {
-        form: Form::Whole(kind),
-        len,
-    }
-}
-
 /// The sign at the front of the bytes.
 fn sign(rest: &[u8]) -> Stretch
-    ensures stretch { result ≡ longest_front (λ front. form_if (is_listed sv_signs front) (Whole Sign)) rest.now }
+    ensures stretch { result ≡ longest_front
+        (λ front. form_if (is_listed sv_signs front) (Whole Sign))
+        rest.now }
     ensures placed { IsPlaced result.form }
 {
-    listed_token(Kind::Sign, listed(&SIGNS, rest))
+    listed_token(Kind::Sign, &SIGNS, rest)
 }
 
 /// The system name at the front of the bytes.
@@ -69,22 +56,16 @@ fn system_name(rest: &[u8]) -> Stretch
         rest.now }
     ensures placed { IsPlaced result.form }
 {
-    listed_token(Kind::Word, listed(&SYSTEM_NAMES, rest))
+    listed_token(Kind::Word, &SYSTEM_NAMES, rest)
 }
 
 /// What begins with a `/`: a comment or a sign.
-fn slash(rest: &[u8]) -> Stretch
+fn sv_slash(rest: &[u8]) -> Stretch
     requires { IsTrue (is_among (codes "/") (slice_index rest.now 0)) }
-    ensures stretch { result ≡ longest_front slash_form rest.now }
+    ensures stretch { result ≡ longest_front (slash_form sv_signs) rest.now }
     ensures placed { IsPlaced result.form }
 {
-    if byte_at(rest, 1) == b'/' {
-        line(b"//", rest)
-    } else if byte_at(rest, 1) == b'*' {
-        block_comment(rest)
-    } else {
-        sign(rest)
-    }
+    slash(&SIGNS, rest)
 }
 
 /// What begins with a `` ` ``: a line that is skipped, or a bad byte.
@@ -136,7 +117,7 @@ pub(crate) fn sv_front(begins: bool, rest: &[u8]) -> Stretch
     } else if is_digit(first) {
         sv_number(rest)
     } else if first == b'/' {
-        slash(rest)
+        sv_slash(rest)
     } else if first == b'`' {
         directive(begins, rest)
     } else if first == b'$' {

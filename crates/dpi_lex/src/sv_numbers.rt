@@ -1,16 +1,16 @@
 //! Numbers of SystemVerilog (IEEE 1800-2017, 5.7.1).
 
-ghost use Rattle.std.specs.Prelude.{◌≡◌, ◌≤◌, ◌<◌, ◌+◌, ◌&&◌, ◌||◌, not, count_by, IsTrue, IfSome, MatchOption, length, slice_index};
+ghost use Rattle.std.specs.Prelude.{◌≡◌, ◌≤◌, ◌<◌, ◌+◌, ◌&&◌, ◌||◌, IsTrue, IfSome, MatchOption};
+ghost use Rattle.std.specs.Prelude.{length, slice_index};
 ghost use Rattle.std.specs.List.{prefix_len, list_all, list_any};
 ghost use Rattle.dpi_lex.specs.Bytes.{is_digit, is_underscore, is_apostrophe};
-ghost use Rattle.dpi_lex.specs.Digits.{is_digit_in};
+ghost use Rattle.dpi_lex.specs.Digits.{is_digit_in, number_if};
 ghost use Rattle.dpi_lex.specs.Stretches.{longest_front, IsPlaced, IsLongest, HasNone};
 ghost use Rattle.dpi_lex.specs.SvNumbers as spec;
 
 use crate::bytes::{byte_at, bytes_from, is_digit, is_letter};
-use crate::digits::{ends_in_digit, is_at_most, is_digit_in};
+use crate::digits::{ends_in_digit, is_at_most, is_digit_in, number_if};
 use crate::form::{Form, Stretch};
-use crate::numbers::number_if;
 
 fn is_plain_byte(b: u8) -> bool
     ensures { result ≡ spec.is_plain_byte b }
@@ -105,7 +105,7 @@ fn is_four_state(b: u8) -> bool
 
 /// How many of the bytes aren't a `_`.
 fn given_len(digits: &[u8]) -> usize
-    ensures { result ≡ count_by (λ b. not (is_underscore b)) digits.now }
+    ensures { result ≡ spec.given_len digits.now }
 {
     digits.iter().filter(|b| **b != b'_').count()
 }
@@ -138,13 +138,13 @@ fn are_decimal_digits(digits: &[u8]) -> bool
 
 /// Whether the byte may stand among the digits of the base.
 fn is_given_in(base: u8, b: u8) -> bool
-    ensures { result ≡ (is_digit_in base b || spec.is_four_state b || is_underscore b) }
+    ensures { result ≡ spec.is_given_in base b }
 {
     is_digit_in(base, b) || is_four_state(b) || b == b'_'
 }
 
 fn are_given_in(base: u8, digits: &[u8]) -> bool
-    ensures { result ≡ list_all (λ b. is_digit_in base b || spec.is_four_state b || is_underscore b) digits.now }
+    ensures { result ≡ list_all (spec.is_given_in base) digits.now }
 {
     digits.iter().all(|b| is_given_in(base, *b))
 }
@@ -169,7 +169,7 @@ fn are_digits(base: u8, digits: &[u8]) -> bool
 
 /// What a size, a base and digits are.
 fn based_number(size: &[u8], base: u8, digits: &[u8]) -> Form
-    ensures form { result ≡ spec.number_if (spec.is_size size.now && spec.are_digits base digits.now) }
+    ensures form { result ≡ number_if (spec.is_size size.now && spec.are_digits base digits.now) }
     ensures placed { IsPlaced result }
 {
     number_if(is_size(size) && are_digits(base, digits))
@@ -177,8 +177,11 @@ fn based_number(size: &[u8], base: u8, digits: &[u8]) -> Form
 
 /// The based number at the front of the bytes, if there is one.
 pub(crate) fn based(rest: &[u8]) -> Option<Stretch>
-    requires { IsTrue (is_digit (slice_index rest.now 0) || is_apostrophe (slice_index rest.now 0)) }
-    ensures longest { MatchOption result (HasNone spec.based_form rest.now) (IsLongest spec.based_form rest.now) }
+    requires { IsTrue (is_digit (slice_index rest.now 0)
+        || is_apostrophe (slice_index rest.now 0)) }
+    ensures longest { MatchOption result
+        (HasNone spec.based_form rest.now)
+        (IsLongest spec.based_form rest.now) }
     ensures past { IfSome result (λ s. prefix_len spec.is_plain_byte rest.now + 1 < s.len) }
     ensures placed { IfSome result (λ s. IsPlaced s.form) }
 {

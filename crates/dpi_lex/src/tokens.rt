@@ -1,6 +1,7 @@
 //! A text with its tokens.
 
-ghost use Rattle.std.specs.Prelude.{◌≡◌, ◌==◌, ◌<◌, ◌≤◌, length, slice_get, Some, IsSomeAnd, IfOk, IfErr};
+ghost use Rattle.std.specs.Prelude.{◌≡◌, ◌==◌, ◌<◌, ◌≤◌, length, slice_get, Some, IsSomeAnd, IfOk};
+ghost use Rattle.std.specs.Prelude.{IfErr};
 ghost use Rattle.dpi_lex.specs.Lexed.{IsText, AreSpans, IsInside};
 ghost use Rattle.dpi_lex.specs.declared.fault.LexFault.TheVariants.{NoMemory};
 ghost use Rattle.dpi_lex.specs.Words.{words_of, place_of};
@@ -27,7 +28,8 @@ impl Model for Tokens {
 
     ghost view = { λ t. record { text = t.text.items; tokens = t.tokens.items } };
 
-    ghost invariant = { λ t. IsText t.text.items × AreSpans 0 (length t.text.items) t.tokens.items };
+    ghost invariant = { λ t. IsText t.text.items
+        × AreSpans 0 (length t.text.items) t.tokens.items };
 }
 
 impl Tokens {

@@ -2,7 +2,8 @@
 //!
 //! Both tell nothing of what they hold or took, so no contract claims anything of it.
 
-ghost use Rattle.std.specs.Prelude.{◌≡◌, ◌≤◌, [], None, length, OnOk};
+ghost use Rattle.std.specs.Prelude.{◌≡◌, ◌<◌, ◌≤◌, [], None, length, OnOk, IfSome, IsErrOf};
+ghost use Rattle.std.specs.Io.KnownBytes.{Consumes, IsAtEnd};
 
 use dpi_ports::{FetchFault, Files, Sink, SinkFault};
 use std::alloc::Global;
@@ -28,19 +29,26 @@ impl<'a, R> HostFiles<'a, R> {
 // the whole of a file, in turns of at least one byte each
 fn read_whole<F: Read>(file: &mut F, into: &mut Vec<u8>) -> Result<(), FetchFault>
     requires { into.old.items ≡ [] }
-    ensures { OnOk result (length into.new.items ≤ 1_048_576) }
+    ensures within { OnOk result (length into.new.items ≤ 1_048_576) }
+    ensures whole { OnOk result (Consumes (F.remaining file.old) (F.remaining file.new) into.new.items) }
+    ensures end { OnOk result (IsAtEnd (F.remaining file.new)) }
+    ensures too_long { IsErrOf result FetchFault.TooLong → IfSome (F.remaining file.old) (λ bytes. 1_048_576 < length bytes) }
 {
     let mut buffer = [0; 4096];
     for _ in 0..=MOST_BYTES {
-        let count = file.read(&mut buffer).map_err(|_| FetchFault::Failed)?;
+        let count = match file.read(&mut buffer) {
+            Ok(count) => count,
+            Err(_) => return Err(FetchFault::Failed),
+        };
         if count == 0 {
             return Ok(());
         }
         if count > MOST_BYTES - into.len() {
             return Err(FetchFault::TooLong);
         }
-        into.extend_from_slice(&buffer[..count])
-            .map_err(|_| FetchFault::NoMemory)?;
+        if into.extend_from_slice(&buffer[..count]).is_err() {
+            return Err(FetchFault::NoMemory);
+        }
     }
     Err(FetchFault::TooLong)
 }

@@ -4,8 +4,10 @@ use Rattle.dpi_lex.proofs.comments.block_comment.Goals as goal
 
 pub returns-in-Some-clause-stretch : goal.returns-in-Some-clause-stretch
 returns-in-Some-clause-stretch c =
-    sym (longest_front-block c.args.rest.now c.bytes_from.result.now c.in-Some.end c.bytes_from.ensures c.requires c.in-Some.ensures _ refl)
+    sym (longest_front-block c.args.rest.now c.bytes_from.result.now c.in-Some.end
+    c.bytes_from.ensures c.requires c.in-Some.ensures _ refl)
 
 pub returns-in-None-clause-stretch : goal.returns-in-None-clause-stretch
 returns-in-None-clause-stretch c =
-    sym (longest_front-open_block c.args.rest.now c.bytes_from.result.now c.bytes_from.ensures c.requires c.in-None.ensures)
+    sym (longest_front-open_block c.args.rest.now c.bytes_from.result.now c.bytes_from.ensures
+    c.requires c.in-None.ensures)

@@ -6,4 +6,5 @@ use Rattle.dpi_lex.proofs.place.line_column_of.Given as goal
 
 abbrev pub invariant-loop-byte : goal.invariant-loop-byte
 invariant-loop-byte l =
-    (l.line ≡ 1 + count_by is_line_feed (take l.byte-index l.byte-items)) × (l.column ≡ 1 + suffix_len stays_on_line (take l.byte-index l.byte-items))
+    (l.line ≡ 1 + count_by is_line_feed (take l.byte-index l.byte-items)) ×
+    (l.column ≡ 1 + suffix_len stays_on_line (take l.byte-index l.byte-items))

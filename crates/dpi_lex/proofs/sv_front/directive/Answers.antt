@@ -8,10 +8,13 @@ pub returns-then-not-begins-clause-stretch : goal.returns-then-not-begins-clause
 returns-then-not-begins-clause-stretch c =
     let rest = c.args.rest.now in
     c.bad_byte.ensures
-    ∙ sym (longest_front-no_line c.args.begins (codes "`timescale") rest (ap (λ t. t && starts_with nat_eq rest (codes "`timescale")) c.if-not-begins.true))
+    ∙ sym (longest_front-no_line c.args.begins (codes "`timescale") rest
+    (ap (λ t. t && starts_with nat_eq rest (codes "`timescale")) c.if-not-begins.true))
 
 pub returns-then-not-starts_with-clause-stretch : goal.returns-then-not-starts_with-clause-stretch
 returns-then-not-starts_with-clause-stretch c =
     let rest = c.args.rest.now in
     c.bad_byte-then-not-starts_with.ensures
-    ∙ sym (longest_front-no_line c.args.begins (codes "`timescale") rest (ap (λ t. t && starts_with nat_eq rest (codes "`timescale")) c.if-not-begins.false ∙ sym c.starts_with.ensures.value ∙ c.if-not-starts_with.true))
+    ∙ sym (longest_front-no_line c.args.begins (codes "`timescale") rest
+    (ap (λ t. t && starts_with nat_eq rest (codes "`timescale")) c.if-not-begins.false
+    ∙ sym c.starts_with.ensures.value ∙ c.if-not-starts_with.true))

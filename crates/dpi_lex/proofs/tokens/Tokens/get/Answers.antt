@@ -11,4 +11,6 @@ returns-clause-inside c =
     subst
     P
     (sym c.index.ensures)
-    (AreSpans-get_or 0 _ c.self.inside.tokens.items c.args.i c.index.result.now c.self.invariant.1 (omega (arith, ap (λ (l : Lexed). length l.tokens) c.self.view_is)) text (ap (λ (l : Lexed). length l.text) (sym c.self.view_is)))
+    (AreSpans-get_or 0 _ c.self.inside.tokens.items c.args.i c.index.result.now c.self.invariant.1
+    (omega (arith, ap (λ (l : Lexed). length l.tokens) c.self.view_is)) text
+    (ap (λ (l : Lexed). length l.text) (sym c.self.view_is)))
