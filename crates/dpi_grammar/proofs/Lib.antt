@@ -1,0 +1,9 @@
+pub mod Lists
+pub mod Exact
+pub mod Forms
+pub mod Rules
+pub mod Many
+pub mod Whole
+pub mod Turns
+pub mod Deeper
+pub mod Branches
