@@ -118,7 +118,8 @@ is_body-plain e n xs lt body other plain =
     ∙ ap (λ t. cond t false (is_plain (get_or xs n 0) && true)) other
     ∙ ap (λ t. t && true) plain
 
--- where the longest body ends before a byte that is neither a quote nor a line feed, it is a backslash
+-- where the longest body ends before a byte that is neither a quote nor a line feed, that byte is a
+-- backslash
 pub IsLongestBody-backslash : (e : ℕ → Bool) (n : ℕ) (xs : List ℕ) → IsLongestBody e xs n →
     n < length xs → is_quote (get_or xs n 0) ≡ false → is_line_feed (get_or xs n 0) ≡ false →
     is_backslash (get_or xs n 0) ≡ true

@@ -11,7 +11,8 @@ use Rattle.dpi_lex.specs.declared.language.Language.TheVariants.{C}
 use Rattle.dpi_lex.specs.declared.token.Kind.TheVariants.{Character, Word, Sign}
 use Rattle.dpi_lex.specs.Bytes.{is_blank, is_digit, is_name_start, is_name_byte, is_quote}
 use Rattle.dpi_lex.specs.Bytes.{is_apostrophe, is_backslash, is_escape}
-use Rattle.dpi_lex.specs.C.{c_forms, c_signs, hash_forms, is_character_byte, character_form}
+use Rattle.dpi_lex.specs.C.{c_forms, c_signs, c_long_signs, c_short_signs, hash_forms}
+use Rattle.dpi_lex.specs.C.{is_character_byte, character_form}
 use Rattle.dpi_lex.specs.CNumbers.{is_number_byte, is_c_number, c_number_form}
 use Rattle.dpi_lex.specs.Define.{define_form}
 use Rattle.dpi_lex.specs.Digits.{number_if}
@@ -65,27 +66,27 @@ no_sign p b more apart h =
 
 signs-no_space : list_all (λ t. not ((λ (b : ℕ). is_blank b || is_line_feed b) (get_or t 0 0)))
     c_signs ≡ true
-unfolding c_signs
+unfolding c_signs c_long_signs c_short_signs
 signs-no_space = refl
 
 signs-no_hash : list_all (λ t. not ((nat_eq 35) (get_or t 0 0))) c_signs ≡ true
-unfolding c_signs
+unfolding c_signs c_long_signs c_short_signs
 signs-no_hash = refl
 
 signs-no_name : list_all (λ t. not ((is_name_start) (get_or t 0 0))) c_signs ≡ true
-unfolding c_signs
+unfolding c_signs c_long_signs c_short_signs
 signs-no_name = refl
 
 signs-no_number : list_all (λ t. not ((is_digit) (get_or t 0 0))) c_signs ≡ true
-unfolding c_signs
+unfolding c_signs c_long_signs c_short_signs
 signs-no_number = refl
 
 signs-no_character : list_all (λ t. not ((is_apostrophe) (get_or t 0 0))) c_signs ≡ true
-unfolding c_signs
+unfolding c_signs c_long_signs c_short_signs
 signs-no_character = refl
 
 signs-no_text : list_all (λ t. not ((is_quote) (get_or t 0 0))) c_signs ≡ true
-unfolding c_signs
+unfolding c_signs c_long_signs c_short_signs
 signs-no_text = refl
 
 -- what begins so can be nothing else

@@ -1,3 +1,5 @@
+use Rattle.std.proofs.Common.{◌++◌, get_or}
+use Rattle.std.proofs.lemmas.List.{get_or-take}
 use Rattle.std.proofs.Common.{◌≡◌, ℕ, ◌<◌, ◌≤◌, Bool, true, false, not, cond, ◌&&◌, ◌||◌, List, []}
 use Rattle.std.proofs.Common.{◌∷◌, length, take, None, refl, ap, sym, ◌∙◌, arith}
 use Rattle.std.specs.Prelude.{nat_eq, nat_le, ◌==◌}
@@ -10,7 +12,8 @@ use Rattle.dpi_lex.specs.declared.form.Form.TheVariants.{Skipped, Whole}
 use Rattle.dpi_lex.specs.declared.token.Kind.{Kind}
 use Rattle.dpi_lex.specs.Listed.{listed, listed_stretch, falls}
 use Rattle.dpi_lex.specs.Place.{is_line_feed}
-use Rattle.dpi_lex.specs.Shapes.{form_if, is_line_of, is_listed}
+use Rattle.dpi_lex.specs.Bytes.{is_among}
+use Rattle.dpi_lex.specs.Shapes.{form_if, is_line_of, is_listed, singles}
 use Rattle.dpi_lex.specs.Stretches.{longest_front, bad_byte}
 use Rattle.dpi_lex.proofs.Longest.{longest_is, longest_none, longest_same}
 use Rattle.dpi_lex.proofs.Runs.{list_all-take_within, list_all-take_past}
@@ -272,3 +275,78 @@ is_listed-not test (text ∷ more) front h passes =
     both : (t : Bool) → not t ≡ true → t ≡ true → ⊥
     both true h k = cc
     both false h k = cc
+
+-- a text of several bytes, of which the second is among those
+abbrev pub has_second : List ℕ → List ℕ → Bool
+has_second seconds text = nat_le 2 (length text) && is_among seconds (get_or text 1 0)
+
+-- such a text isn't at the front of bytes with another second one
+not_second : (seconds text rest : List ℕ) → has_second seconds text ≡ true →
+    is_among seconds (get_or rest 1 0) ≡ false → starts_with nat_eq rest text ≡ false
+not_second seconds text rest h other =
+    elim (starts_with nat_eq rest text) as (λ t. starts_with nat_eq rest text ≡ t → t ≡ false) [
+      | true ↦
+          λ k.
+          let long : nat_le 2 (length text) ≡ true =
+          first_true (nat_le 2 (length text)) (is_among seconds (get_or text 1 0)) h in
+          let second : is_among seconds (get_or text 1 0) ≡ true =
+          second_true (nat_le 2 (length text)) (is_among seconds (get_or text 1 0)) h in
+          let there : 1 < length text = above (length text) long in
+          let same : get_or text 1 0 ≡ get_or rest 1 0 =
+          ap (λ xs. get_or xs 1 0) (starts_with-take rest text k)
+          ∙ get_or-take (length text) rest 1 0 there in
+          absurd (both (is_among seconds (get_or rest 1 0)) (ap (is_among seconds) (sym same)
+          ∙ second) other)
+      | false ↦ λ k. refl
+    ] refl
+  where
+    above : (n : ℕ) → nat_le 2 n ≡ true → 1 < n
+    above n h = grind (arith, nat_tests)
+
+    both : (t : Bool) → t ≡ true → t ≡ false → ⊥
+    both true h k = cc
+    both false h k = cc
+
+no_bytes : (bytes : List ℕ) → listed (singles bytes) [] ≡ 0
+no_bytes [] = refl
+no_bytes (s ∷ bytes) = no_bytes bytes
+
+-- a sign of one byte at the front
+listed-singles : (bytes rest : List ℕ) → is_among bytes 0 ≡ false →
+    listed (singles bytes) rest ≡ cond (is_among bytes (get_or rest 0 0)) 1 0
+listed-singles [] rest h = refl
+listed-singles (s ∷ bytes) [] h = no_zero (s ∷ bytes) h
+  where
+    no_zero : (bytes : List ℕ) → is_among bytes 0 ≡ false →
+        listed (singles bytes) [] ≡ cond (is_among bytes 0) 1 0
+    no_zero bytes h = no_bytes bytes ∙ sym (ap (λ t. cond t 1 0) h)
+listed-singles (s ∷ bytes) (a ∷ rest) h =
+    by_first (nat_eq s a) (same s a)
+    (listed-singles bytes (a ∷ rest) (second_none (0 == s) (is_among bytes 0) h))
+  where
+    same : (s a : ℕ) → (a == s) ≡ nat_eq s a
+    same s a = grind (arith, nat_tests)
+
+    second_none : (p q : Bool) → (p || q) ≡ false → q ≡ false
+    second_none true q h = cc
+    second_none false q h = h
+
+    by_first : (p : Bool) → (a == s) ≡ p →
+        listed (singles bytes) (a ∷ rest) ≡ cond (is_among bytes a) 1 0 →
+        cond (p && true) 1 (listed (singles bytes) (a ∷ rest)) ≡ cond ((a == s) || is_among bytes a)
+        1 0
+    by_first true is later = sym (ap (λ t. cond (t || is_among bytes a) 1 0) is)
+    by_first false is later = later ∙ sym (ap (λ t. cond (t || is_among bytes a) 1 0) is)
+
+-- where the second byte is of no longer sign, only one of one byte can be there
+pub listed-short : (long : List (List ℕ)) (seconds bytes rest : List ℕ) →
+    list_all (has_second seconds) long ≡ true → is_among bytes 0 ≡ false →
+    is_among seconds (get_or rest 1 0) ≡ false →
+    listed (long ++ singles bytes) rest ≡ cond (is_among bytes (get_or rest 0 0)) 1 0
+listed-short [] seconds bytes rest h zero other = listed-singles bytes rest zero
+listed-short (text ∷ long) seconds bytes rest h zero other =
+    ap (λ t. cond t (length text) (listed (long ++ singles bytes) rest))
+    (not_second seconds text rest
+    (first_true (has_second seconds text) (list_all (has_second seconds) long) h) other)
+    ∙ listed-short long seconds bytes rest
+    (second_true (has_second seconds text) (list_all (has_second seconds) long) h) zero other

@@ -14,7 +14,8 @@ use Rattle.dpi_lex.specs.Shapes.{is_name, is_listed, text_form}
 use Rattle.dpi_lex.specs.Digits.{number_if}
 use Rattle.dpi_lex.specs.SvNumbers.{is_plain_stretch, is_plain_number, based_form, is_fill}
 use Rattle.dpi_lex.specs.SvNumbers.{sv_number_form}
-use Rattle.dpi_lex.specs.SystemVerilog.{sv_forms, sv_signs, system_names, apostrophe_form}
+use Rattle.dpi_lex.specs.SystemVerilog.{sv_forms, sv_signs, sv_long_signs, sv_short_signs}
+use Rattle.dpi_lex.specs.SystemVerilog.{system_names, apostrophe_form}
 use Rattle.dpi_lex.proofs.Classes.{option_or-none, no_space, no_line, no_block, no_line_at, no_name}
 use Rattle.dpi_lex.proofs.Classes.{no_text}
 use Rattle.dpi_lex.proofs.Fronts.{is_listed-not}
@@ -47,27 +48,27 @@ no_sign p b more apart h =
 
 signs-no_space : list_all (λ t. not ((λ (b : ℕ). is_blank b || is_line_feed b) (get_or t 0 0)))
     sv_signs ≡ true
-unfolding sv_signs
+unfolding sv_signs sv_long_signs sv_short_signs
 signs-no_space = refl
 
 signs-no_directive : list_all (λ t. not ((nat_eq 96) (get_or t 0 0))) sv_signs ≡ true
-unfolding sv_signs
+unfolding sv_signs sv_long_signs sv_short_signs
 signs-no_directive = refl
 
 signs-no_name : list_all (λ t. not ((is_name_start) (get_or t 0 0))) sv_signs ≡ true
-unfolding sv_signs
+unfolding sv_signs sv_long_signs sv_short_signs
 signs-no_name = refl
 
 signs-no_system : list_all (λ t. not ((nat_eq 36) (get_or t 0 0))) sv_signs ≡ true
-unfolding sv_signs
+unfolding sv_signs sv_long_signs sv_short_signs
 signs-no_system = refl
 
 signs-no_number : list_all (λ t. not ((is_digit) (get_or t 0 0))) sv_signs ≡ true
-unfolding sv_signs
+unfolding sv_signs sv_long_signs sv_short_signs
 signs-no_number = refl
 
 signs-no_text : list_all (λ t. not ((is_quote) (get_or t 0 0))) sv_signs ≡ true
-unfolding sv_signs
+unfolding sv_signs sv_long_signs sv_short_signs
 signs-no_text = refl
 
 -- what begins so can be nothing else

@@ -14,7 +14,7 @@ use Rattle.dpi_lex.specs.Stretches.{longest_front, IsLongest, HasNone}
 use Rattle.dpi_lex.specs.Digits.{number_if}
 use Rattle.dpi_lex.specs.SvNumbers.{is_plain_byte, is_plain_stretch, is_plain_number, based_form}
 use Rattle.dpi_lex.specs.SvNumbers.{is_fill, sv_number_form}
-use Rattle.dpi_lex.specs.SystemVerilog.{sv_signs, apostrophe_form}
+use Rattle.dpi_lex.specs.SystemVerilog.{sv_signs, sv_long_signs, sv_short_signs, apostrophe_form}
 use Rattle.dpi_lex.proofs.Classes.{option_or-none}
 use Rattle.dpi_lex.proofs.Fronts.{is_listed-not}
 use Rattle.dpi_lex.proofs.Longest.{longest_is, longest_past, longest_same, longest-from}
@@ -111,7 +111,7 @@ no_plain b more h = ap
 -- a sign that begins with a `'` has at most two bytes
 no_long_sign : (b : ℕ) (more : List ℕ) → is_apostrophe b ≡ true → 1 < length more →
     form_if (is_listed sv_signs (b ∷ more)) (Whole Sign) ≡ None
-unfolding sv_signs
+unfolding sv_signs sv_long_signs sv_short_signs
 no_long_sign b more h long =
     ap (λ t. form_if t (Whole Sign))
     (is_listed-not (λ t. is_apostrophe (get_or t 0 0) && nat_lt 2 (length t)) sv_signs (b

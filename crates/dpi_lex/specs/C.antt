@@ -10,7 +10,7 @@ use Rattle.dpi_lex.specs.CNumbers.{c_number_form}
 use Rattle.dpi_lex.specs.Define.{define_form}
 use Rattle.dpi_lex.specs.Place.{is_line_feed}
 use Rattle.dpi_lex.specs.Shapes.{form_if, first_form, is_space, is_line_of, block_form, is_name}
-use Rattle.dpi_lex.specs.Shapes.{is_listed, texts, text_form}
+use Rattle.dpi_lex.specs.Shapes.{is_listed, texts, singles, text_form}
 use Rattle.dpi_lex.specs.Stretches.{Forms}
 
 -- a byte that stands for itself in a character
@@ -35,12 +35,19 @@ character_form bytes after = None
 abbrev pub character_forms : Forms
 character_forms begins bytes after = character_form bytes after
 
--- the signs, the longest first
-unfoldable pub c_signs : List (List ℕ)
-c_signs =
+-- the signs of several bytes, the longest first
+unfoldable pub c_long_signs : List (List ℕ)
+c_long_signs =
     texts (codes "<<= >>=")
     ++ texts (codes "++ -- += -= *= /= %= &= |= ^= << >> <= >= == != && || ->")
-    ++ texts (codes "( ) { } [ ] ; , = * + - ! ~ & / % < > ^ | . ? :")
+
+-- the signs of one byte
+unfoldable pub c_short_signs : List ℕ
+c_short_signs = codes "(){}[];,=*+-!~&/%<>^|.?:"
+
+-- the signs, the longest first
+unfoldable pub c_signs : List (List ℕ)
+c_signs = c_long_signs ++ singles c_short_signs
 
 -- the form of a define, wherever it stands
 abbrev pub define_forms : Forms

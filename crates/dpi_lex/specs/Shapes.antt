@@ -1,3 +1,4 @@
+use Rattle.std.specs.Prelude.{map}
 use Rattle.std.specs.Prelude.{ℕ, Bool, true, false, Option, Some, None, List, [], ◌∷◌, ◌++◌, ◌-◌}
 use Rattle.std.specs.Prelude.{◌≡◌, ◌<◌, ◌≤◌, ◌&&◌, ◌||◌, not, if◌then◌else◌, length, take, drop}
 use Rattle.std.specs.Prelude.{slice_index, codes, nat_eq}
@@ -75,6 +76,10 @@ texts_after begun (b ∷ more) =
 -- the texts between the spaces
 abbrev pub texts : List ℕ → List (List ℕ)
 texts bytes = texts_after [] bytes
+
+-- the texts of one byte each
+abbrev pub singles : List ℕ → List (List ℕ)
+singles bytes = map (λ b. b ∷ []) bytes
 
 -- a byte that stands for itself in a string
 abbrev pub is_plain : ℕ → Bool

@@ -5,7 +5,7 @@ use Rattle.dpi_lex.specs.declared.language.Language.TheVariants.{SystemVerilog}
 use Rattle.dpi_lex.specs.declared.token.Kind.TheVariants.{Word, Sign}
 use Rattle.dpi_lex.specs.Bytes.{is_name_byte, is_escape}
 use Rattle.dpi_lex.specs.Shapes.{form_if, first_form, is_space, is_line_of, block_form, is_name}
-use Rattle.dpi_lex.specs.Shapes.{is_listed, texts, text_form}
+use Rattle.dpi_lex.specs.Shapes.{is_listed, texts, singles, text_form}
 use Rattle.dpi_lex.specs.Stretches.{Forms}
 use Rattle.dpi_lex.specs.SvNumbers.{sv_number_form}
 
@@ -13,12 +13,19 @@ use Rattle.dpi_lex.specs.SvNumbers.{sv_number_form}
 unfoldable pub system_names : List (List ℕ)
 system_names = texts (codes "$unsigned $display $finish $signed $write")
 
--- the signs, the longest first
-unfoldable pub sv_signs : List (List ℕ)
-sv_signs =
+-- the signs of several bytes, the longest first
+unfoldable pub sv_long_signs : List (List ℕ)
+sv_long_signs =
     texts (codes "<<< >>> <<= >>= === !==")
     ++ texts (codes "'{ += -= *= /= %= &= |= ^= ++ -- +: -: ~& ~| ~^ ^~ << >> <= >= == != && ||")
-    ++ texts (codes "( ) [ ] { } ' ; : , . # @ ? = + - * / % ! ~ & | ^ < >")
+
+-- the signs of one byte
+unfoldable pub sv_short_signs : List ℕ
+sv_short_signs = codes "()[]{}';:,.#@?=+-*/%!~&|^<>"
+
+-- the signs, the longest first
+unfoldable pub sv_signs : List (List ℕ)
+sv_signs = sv_long_signs ++ singles sv_short_signs
 
 -- what a stretch is: skipped, a word, a number, a string or a sign
 abbrev pub sv_forms : Forms

@@ -9,14 +9,14 @@ ghost use Rattle.dpi_lex.specs.Lexed.{IsText};
 ghost use Rattle.dpi_lex.specs.Shapes.{form_if, is_listed, slash_form};
 ghost use Rattle.dpi_lex.specs.Stretches.{front_of, longest_front, IsPlaced};
 
-use crate::bytes::{is_digit, is_name_start, is_space};
+use crate::bytes::{byte_at, is_digit, is_name_start, is_space};
 use crate::c_numbers::c_number;
 use crate::characters::character;
 use crate::comments::{line, slash};
 use crate::define::define;
 use crate::form::Stretch;
 use crate::language::Language;
-use crate::listed::listed_token;
+use crate::listed::{is_among, listed_token, single_token};
 use crate::spaces::space;
 use crate::texts::text;
 use crate::token::Kind;
@@ -30,6 +30,13 @@ const SIGNS: [&[u8]; 45] = [
     b"?", b":",
 ];
 
+/// The signs of one byte.
+const SHORT_SIGNS: &[u8] = b"(){}[];,=*+-!~&/%<>^|.?:";
+
+/// What the second byte of a longer sign can be. Most signs are followed by another byte, so they
+/// needn't be looked for in the whole list.
+const SECOND_BYTES: &[u8] = b"<>=+-&|";
+
 /// The sign at the front of the bytes.
 fn sign(rest: &[u8]) -> Stretch
     ensures stretch { result ≡ longest_front
@@ -37,7 +44,11 @@ fn sign(rest: &[u8]) -> Stretch
         rest.now }
     ensures placed { IsPlaced result.form }
 {
-    listed_token(Kind::Sign, &SIGNS, rest)
+    if is_among(SECOND_BYTES, byte_at(rest, 1)) {
+        listed_token(Kind::Sign, &SIGNS, rest)
+    } else {
+        single_token(Kind::Sign, SHORT_SIGNS, rest)
+    }
 }
 
 /// What begins with a `/`: a comment or a sign.

@@ -4,7 +4,7 @@ ghost use Rattle.std.specs.Prelude.{◌≡◌, ◌<◌, ◌≤◌, ◌+◌, ◌|
 ghost use Rattle.std.specs.Prelude.{length, slice_index, IfOk, IfErr, OnOk};
 ghost use Rattle.dpi_lex.specs.declared.fault.LexFault.TheVariants.{NoMemory};
 ghost use Rattle.dpi_lex.specs.Languages.{forms_of, sv_lexed, c_lexed};
-ghost use Rattle.dpi_lex.specs.Lexed.{IsText};
+ghost use Rattle.dpi_lex.specs.Lexed.{IsText, AreSpans};
 ghost use Rattle.dpi_lex.specs.Stretches.{front_of, begins_line, stretch_at, fault_place};
 ghost use Rattle.dpi_lex.specs.Stretches.{fault_from, lexed, IsPlaced, IsRefusal};
 
@@ -85,6 +85,7 @@ fn tokens_of(alloc: Global, language: Language, text: &[u8]) -> Result<Tokens, L
     requires { IsText text.now }
     ensures text { IfOk result (λ t. t.text ≡ text.now) }
     ensures tokens { IfOk result (λ t. lexed (forms_of language) text.now ≡ Ok t.tokens) }
+    ensures spans { IfOk result (λ t. AreSpans 0 (length t.text) t.tokens) }
     ensures fault { IfErr result (IsRefusal (lexed (forms_of language) text.now)) }
 {
     let mut tokens = Vec::new(alloc);
@@ -114,6 +115,7 @@ pub fn sv_tokens(alloc: Global, text: &[u8]) -> Result<Tokens, LexFault>
     requires { IsText text.now }
     ensures text { IfOk result (λ t. t.text ≡ text.now) }
     ensures tokens { IfOk result (λ t. sv_lexed text.now ≡ Ok t.tokens) }
+    ensures spans { IfOk result (λ t. AreSpans 0 (length t.text) t.tokens) }
     ensures fault { IfErr result (IsRefusal (sv_lexed text.now)) }
 {
     tokens_of(alloc, Language::SystemVerilog, text)
@@ -128,6 +130,7 @@ pub fn c_tokens(alloc: Global, text: &[u8]) -> Result<Tokens, LexFault>
     requires { IsText text.now }
     ensures text { IfOk result (λ t. t.text ≡ text.now) }
     ensures tokens { IfOk result (λ t. c_lexed text.now ≡ Ok t.tokens) }
+    ensures spans { IfOk result (λ t. AreSpans 0 (length t.text) t.tokens) }
     ensures fault { IfErr result (IsRefusal (c_lexed text.now)) }
 {
     tokens_of(alloc, Language::C, text)

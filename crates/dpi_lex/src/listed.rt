@@ -1,11 +1,13 @@
 //! Texts of a list.
 
-ghost use Rattle.std.specs.Prelude.{◌≡◌, IsTrue, map, nat_eq};
+ghost use Rattle.std.specs.Prelude.{◌≡◌, IsTrue, if◌then◌else◌, map, slice_index};
 ghost use Rattle.dpi_lex.specs.declared.form.Form.TheVariants.{Whole};
+ghost use Rattle.dpi_lex.specs.Bytes.{is_among};
 ghost use Rattle.dpi_lex.specs.Listed.{listed, listed_stretch, falls};
 ghost use Rattle.dpi_lex.specs.Shapes.{form_if, is_listed};
 ghost use Rattle.dpi_lex.specs.Stretches.{longest_front, IsPlaced};
 
+use crate::bytes::byte_at;
 use crate::form::{Form, Stretch};
 use crate::token::Kind;
 
@@ -57,4 +59,25 @@ pub(crate) fn listed_token(kind: Kind, list: &[&[u8]], rest: &[u8]) -> Stretch
     ensures placed { IsPlaced result.form }
 {
     token_of(kind, listed(list, rest))
+}
+
+/// Whether the byte is among those.
+pub(crate) fn is_among(bytes: &[u8], b: u8) -> bool
+    ensures { result ≡ is_among bytes.now b }
+{
+    bytes.iter().any(|c| b == *c)
+}
+
+/// The first byte as a token of that kind, where it's among those; else a bad byte.
+pub(crate) fn single_token(kind: Kind, bytes: &[u8], rest: &[u8]) -> Stretch
+    ensures stretch { result ≡ listed_stretch
+        kind
+        (if is_among bytes.now (slice_index rest.now 0) then 1 else 0) }
+    ensures placed { IsPlaced result.form }
+{
+    if is_among(bytes, byte_at(rest, 0)) {
+        token_of(kind, 1)
+    } else {
+        token_of(kind, 0)
+    }
 }

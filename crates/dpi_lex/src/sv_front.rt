@@ -13,7 +13,7 @@ use crate::bytes::{byte_at, is_digit, is_name_start, is_space};
 use crate::comments::{line, slash};
 use crate::form::{Form, Stretch};
 use crate::language::Language;
-use crate::listed::listed_token;
+use crate::listed::{is_among, listed_token, single_token};
 use crate::spaces::space;
 use crate::sv_numbers::{based, sv_number};
 use crate::texts::text;
@@ -28,6 +28,13 @@ const SIGNS: [&[u8]; 58] = [
     b",", b".", b"#", b"@", b"?", b"=", b"+", b"-", b"*", b"/", b"%", b"!", b"~", b"&", b"|", b"^",
     b"<", b">",
 ];
+
+/// The signs of one byte.
+const SHORT_SIGNS: &[u8] = b"()[]{}';:,.#@?=+-*/%!~&|^<>";
+
+/// What the second byte of a longer sign can be. Most signs are followed by another byte, so they
+/// needn't be looked for in the whole list.
+const SECOND_BYTES: &[u8] = b"<>={+-:&|^~";
 
 /// The system names, the longest first.
 const SYSTEM_NAMES: [&[u8]; 5] = [b"$unsigned", b"$display", b"$finish", b"$signed", b"$write"];
@@ -46,7 +53,11 @@ fn sign(rest: &[u8]) -> Stretch
         rest.now }
     ensures placed { IsPlaced result.form }
 {
-    listed_token(Kind::Sign, &SIGNS, rest)
+    if is_among(SECOND_BYTES, byte_at(rest, 1)) {
+        listed_token(Kind::Sign, &SIGNS, rest)
+    } else {
+        single_token(Kind::Sign, SHORT_SIGNS, rest)
+    }
 }
 
 /// The system name at the front of the bytes.

@@ -47,6 +47,7 @@ impl Tokens {
     /// How many tokens the text has.
     pub fn len(&self) -> u32
         ensures count { result ≡ length self.now.tokens }
+        ensures spans { AreSpans 0 (length self.now.text) self.now.tokens }
         ensures bound { result ≤ 1048576 }
     {
         self.tokens.len() as u32

@@ -1,8 +1,8 @@
 use Rattle.std.proofs.Common.{◌≡◌, ◌+◌, ◌∷◌, ◌++◌, [], Result, Ok, Err, IfOk, sym, ap, ◌∙◌, arith}
-use Rattle.std.proofs.Common.{inr}
+use Rattle.std.proofs.Common.{inr, length}
 use Rattle.dpi_lex.specs.declared.token.Token.{Token}
 use Rattle.dpi_lex.specs.Languages.{forms_of}
-use Rattle.dpi_lex.specs.Lexed.{Lexed}
+use Rattle.dpi_lex.specs.Lexed.{Lexed, AreSpans}
 use Rattle.dpi_lex.specs.Stretches.{lexed}
 use Rattle.dpi_lex.proofs.Spans.{AreSpans-wider, AreSpans-push}
 use Rattle.dpi_lex.proofs.Reading.{Step, Reads-start, Reads-step, Reads-end, Step-skipped}
@@ -75,3 +75,11 @@ returns-clause-tokens c =
     in
     IfOk_from c.new.result c.new.ensures.ok (λ l is. read
     ∙ ap (λ (m : Lexed). Ok m.tokens) (sym is))
+
+pub returns-clause-spans : goal.returns-clause-spans
+returns-clause-spans c =
+    let text = c.args.text.now in
+    let ts = c.loop-place.tokens.items in
+    let spans : AreSpans 0 (length text) ts =
+    AreSpans-wider 0 c.loop-place.place (length text) ts c.loop-place.invariant.1 (omega arith) in
+    IfOk_from c.new.result c.new.ensures.ok (λ l is. rw is spans)
