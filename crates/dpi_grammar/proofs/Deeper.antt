@@ -2,13 +2,12 @@
 use Rattle.std.proofs.Common.{◌≡◌, ℕ, zero, suc, ◌+◌, ◌≤◌, Bool, true, false, ◌||◌, List, [], ◌∷◌, ◌++◌, length, Option, Some, None, Ok, Err, if◌then◌else◌, refl, sym, ap, ◌∙◌, subst, arith, append-nil}
 use Rattle.dpi_grammar.specs.declared.stop.Stop.{Stop}
 use Rattle.dpi_grammar.specs.declared.stop.Stop.TheVariants.{TooDeep}
-use Rattle.dpi_grammar.specs.Told.{Told}
-use Rattle.dpi_grammar.specs.Parser.{State, Outcome, Parser, and_then, first, level, optional, optional_by, many_from, more}
+use Rattle.dpi_grammar.specs.Parser.{State, Parser, and_then, first, level, optional, optional_by, many_from, more}
 use Rattle.dpi_grammar.proofs.Lists.{true_not_false, words_append, right_join}
 use Rattle.dpi_grammar.proofs.Exact.{Kind, words, levels, Is, Viable, Exact}
 use Rattle.dpi_grammar.proofs.Forms.{within, enter, opens, formed, within_viable}
 use Rattle.dpi_grammar.proofs.Rules.{Rule, never, Knows, Inside, remade_exact}
-use Rattle.dpi_grammar.proofs.Many.{Starts, Apart, or_left, or_both, option, option_grabs, option_keeps, optional_exact, none_form, none_only, absent, absent_exact, perhaps, list, Repeats, list_keeps, list_starts, empty_form, empty_only, many}
+use Rattle.dpi_grammar.proofs.Many.{Starts, Apart, or_left, or_both, option, option_grabs, option_keeps, none_form, none_only, absent, absent_exact, perhaps, list, Repeats, list_keeps, empty_form, empty_only, many}
 
 -- a rule one level further in
 pub deeper_rule : {T X Z : Type 0} {live : Type 0} {late : T → Bool} {before : Option T → Bool} {S : Kind T X} {make : X → Z} {d : ℕ} {p : Parser T Z}

@@ -7,3 +7,7 @@ pub mod Whole
 pub mod Turns
 pub mod Deeper
 pub mod Branches
+pub mod Choices
+pub mod Leading
+pub mod Firsts
+pub mod Alternatives
