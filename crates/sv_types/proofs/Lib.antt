@@ -1,0 +1,5 @@
+pub mod Choices
+pub mod Words
+pub mod TypeRules
+pub mod DimensionRules
+pub mod ImportRules
