@@ -1,0 +1,14 @@
+pub mod Goes
+pub mod Trees
+pub mod Operators
+pub mod Starts
+pub mod Frees
+pub mod Alternatives
+pub mod PartRules
+pub mod BoundTrees
+pub mod SelectRules
+pub mod PlaceRules
+pub mod ChainRules
+pub mod BraceRules
+pub mod PrimaryRules
+pub mod ExprRules
