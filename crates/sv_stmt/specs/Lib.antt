@@ -1,0 +1,4 @@
+pub mod Front
+pub mod ReadingVariables
+pub mod ReadingChanges
+pub mod ReadingStatements
