@@ -1,0 +1,10 @@
+pub mod Classes
+pub mod Operators
+pub mod Leaves
+pub mod Bases
+pub mod Types
+pub mod Expressions
+pub mod Stores
+pub mod Declarations
+pub mod Statements
+pub mod File
