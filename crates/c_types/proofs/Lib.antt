@@ -1,0 +1,4 @@
+pub mod BaseWords
+pub mod BaseRules
+pub mod BaseTurns
+pub mod TypeRules
