@@ -1,0 +1,11 @@
+pub mod Beginnings
+pub mod Trees
+pub mod Goes
+pub mod Operators
+pub mod Frees
+pub mod PartRules
+pub mod Shortest
+pub mod Starts
+pub mod Leads
+pub mod OperandRules
+pub mod ExprRules
