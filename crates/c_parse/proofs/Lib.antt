@@ -1,0 +1,13 @@
+pub mod Trees
+pub mod Goes
+pub mod VariableRules
+pub mod Tokens
+pub mod InitRules
+pub mod ParamRules
+pub mod Fronts
+pub mod SimpleRules
+pub mod NestedRules
+pub mod IfRules
+pub mod LevelRules
+pub mod FileRules
+pub mod Answers

@@ -1,0 +1,19 @@
+//! Levels that are left.
+
+ghost use Rattle.std.specs.Prelude.{◌≡◌, ◌<◌, MatchResult, Some, None};
+ghost use Rattle.c_parse.specs.ReadingStatements as spec;
+
+use c_cursor::Cursor;
+use dpi_grammar::Stop;
+
+/// One level less, or that the next token opens a level too many.
+pub fn enter(tokens: &Cursor<'_>, depth: u32) -> Result<u32, Stop>
+    ensures { MatchResult result
+        (λ inner. (inner < depth) × (spec.inside depth ≡ Some (spec.readers inner)))
+        (λ stop. (stop ≡ Stop.TooDeep tokens.now.place) × (spec.inside depth ≡ None)) }
+{
+    if depth == 0 {
+        return Err(tokens.too_deep());
+    }
+    Ok(depth - 1)
+}
