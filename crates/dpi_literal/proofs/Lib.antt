@@ -1,0 +1,4 @@
+pub mod Inverted
+pub mod Padding
+pub mod TextLemmas
+pub mod Widths

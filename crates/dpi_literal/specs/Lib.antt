@@ -1,0 +1,3 @@
+pub mod Constants
+pub mod SvNumber
+pub mod Texts
