@@ -1,0 +1,4 @@
+pub mod CPieces
+pub mod CStages
+pub mod Codes
+pub mod SvPieces

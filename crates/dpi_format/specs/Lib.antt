@@ -1,0 +1,4 @@
+pub mod CFirst
+pub mod CFormat
+pub mod SvFirst
+pub mod SvFormat
