@@ -1,0 +1,4 @@
+pub mod Parts
+pub mod Many
+pub mod Limits
+pub mod Clean

@@ -1,0 +1,4 @@
+pub mod Bounds
+pub mod Elements
+pub mod Dimensions
+pub mod Kinds
