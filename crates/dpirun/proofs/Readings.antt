@@ -1,50 +1,70 @@
--- What a refused file has for a text.
-use Rattle.std.proofs.Common.{◌≡◌, ◌≢◌, ℕ, ◌<◌, true, List, Option, Some, None, Err, length, replicate, IsSomeAnd, nat_lt, codes, refl, ap, arith}
+-- What a parser's or a lexer's fault says of a text.
+use Rattle.std.proofs.Common.{◌≡◌, ◌≤◌, ◌<◌, ◌+◌, ℕ, Bool, true, false, List, [], ◌∷◌, Option, Some, None, length, map, take, replicate, IsSomeAnd, nat_lt, refl, sym, ap, subst, ◌∙◌, arith, inl, inr}
 use Rattle.std.proofs.lemmas.Bool.Decides.{nat_tests}
-use Rattle.std.specs.Prelude.{if◌then◌else◌}
-use Rattle.std.specs.Option.{ok_or}
-use Rattle.std.proofs.lemmas.List.{length-replicate}
-use Rattle.dpi_ports.specs.Told.{Contents, HoldsMore}
-use Rattle.dpirun.specs.Answer.{read_as}
-use Rattle.dpirun.specs.Ends.{Reads}
-use Rattle.dpirun.specs.Refusals.{IsRefused, code_of}
-use Rattle.dpirun.specs.declared.reading.ReadFault.{ReadFault}
-use Rattle.dpirun.specs.declared.reading.ReadFault.TheVariants.{TooLong, NotBuilt, Unread, NoMemory}
+use Rattle.std.proofs.lemmas.List.{take_all, length-map, length-append, length-replicate}
+use Rattle.dpi_grammar.specs.Faults.{with_end, Begins, IsViable, IsShallow, tokens_of, IsRefused, IsTooMuch, IsTooDeep}
+use Rattle.dpi_grammar.specs.Told.{Told}
+use Rattle.dpi_ports.specs.Told.{Contents, Holds, HoldsMore}
+use Rattle.dpirun.specs.Answer.{IsRefusedAs}
+use Rattle.dpirun.specs.Command.{language_of}
+use Rattle.dpirun.specs.Faults.{IsRefusal}
+use Rattle.dpirun.specs.declared.command.Language.{Language}
+use Rattle.dpirun.specs.declared.command.Language.TheVariants.{SystemVerilog, C}
+use Rattle.dpirun.specs.declared.refusal.Code.TheVariants.{TooLong}
 
--- a text past the limit is refused, whatever is said of it
-read_as-long : {A : Type 0} (said : List ℕ → Option A) (text : List ℕ) → 1048576 < length text
-    → read_as said text ≡ Err (codes "TooLong")
-read_as-long said text long =
-    let past : nat_lt 1048576 (length text) ≡ true = grind (arith, nat_tests) in
-    ap (λ b. if b then Err (codes "TooLong") else ok_or (said text) (codes "NotBuilt")) past
+-- no token is refused behind the end
+module _ {T X : Type 0} (told : X → Told T) (limit : ℕ) (ts : List T) where
+  ends : length (with_end ts) ≡ length ts + 1
+  ends = length-append (map Some ts) (None ∷ []) ∙ ap (λ n. n + 1) (length-map ts Some)
 
--- what a file past the limit holds
-long_file : {A : Type 0} (said : List ℕ → Option A) (contents : Contents) (name : List ℕ) (o : Option (List ℕ))
-    → contents name ≡ o → IsSomeAnd o (λ bytes. 1048576 < length bytes)
-    → Reads (Some contents) name (λ text. read_as said text ≡ Err (codes "TooLong"))
-long_file said contents name (Some bytes) is long = record { text = bytes; held = is; is = read_as-long said bytes long }
-long_file said contents name None is long = absurd long
+  same_front : (at : ℕ) → length ts < at → take at (with_end ts) ≡ take (at + 1) (with_end ts)
+  same_front at far =
+      take_all at (with_end ts) (omega (arith, ends, far))
+      ∙ sym (take_all (at + 1) (with_end ts) (omega (arith, ends, far)))
 
--- a source that doesn't tell may have held any text
-long_text : {A : Type 0} (said : List ℕ → Option A) (name : List ℕ) (n : ℕ) → 1048576 < n
-    → Reads None name (λ text. read_as said text ≡ Err (codes "TooLong"))
-long_text said name n long = record {
-  text = replicate n 0;
-  held = tt;
-  is = read_as-long said (replicate n 0) (rw length-replicate long);
+  by_cases : (at : ℕ) → (length ts < at → ⊥) → at ≤ length ts
+  by_cases at never = by (nat_lt (length ts) at) refl
+    where
+      by : (b : Bool) → nat_lt (length ts) at ≡ b → at ≤ length ts
+      by true far = absurd (never (grind (arith, nat_tests)))
+      by false near = grind (arith, nat_tests)
+
+  pub refused_within : (at : ℕ) → IsRefused told limit ts at → at ≤ length ts
+  refused_within at r = by_cases at (λ far.
+      let v = r.before in
+      r.refused (v.0, v.1.0, subst (λ l. Begins l (with_end (tokens_of told v.0))) (same_front at far) v.2))
+
+  pub too_much_within : (at : ℕ) → IsTooMuch told limit ts at → at ≤ length ts
+  too_much_within at r = by_cases at (λ far. r.refused (subst (λ l. IsViable told (IsShallow told limit) l) (same_front at far) r.before))
+
+  pub too_deep_within : (late : T → Bool) (at : ℕ) → IsTooDeep told late limit ts at → at ≤ length ts
+  too_deep_within late at (inl r) = too_much_within at r
+  too_deep_within late at (inr r) = let h : at + 1 ≤ length ts = too_much_within (at + 1) r.3 in omega (arith, h)
+
+-- a text past the limit is refused in either language
+long_is_refused : (language : Language) (text : List ℕ) → 1048576 < length text → IsRefusal language text TooLong 0
+long_is_refused SystemVerilog text long = (long, refl)
+long_is_refused C text long = (long, refl)
+
+-- so is a file whose source has such a text, or may have it
+long_text : (told : Option Contents) (file text : List ℕ) → 1048576 < length text → Holds told file text → IsRefusedAs told file 1 1 TooLong
+long_text told file text long held = record {
+  text = text;
+  held = held;
+  place = 0;
+  refusal = long_is_refused (language_of file) text long;
+  line_is = refl;
+  column_is = refl;
 }
 
--- a source that fetched a text past the limit has one, where it tells
-pub reads_long : {A : Type 0} (said : List ℕ → Option A) (told : Option Contents) (name : List ℕ)
-    → HoldsMore told name 1048576 → Reads told name (λ text. read_as said text ≡ Err (codes "TooLong"))
-reads_long said (Some contents) name more = long_file said contents name (contents name) refl more
-reads_long said None name more = long_text said name 1048577 (omega arith)
+long_file : (contents : Contents) (file : List ℕ) (o : Option (List ℕ)) → contents file ≡ o → IsSomeAnd o (λ bytes. 1048576 < length bytes)
+    → IsRefusedAs (Some contents) file 1 1 TooLong
+long_file contents file (Some bytes) is long = long_text (Some contents) file bytes long is
+long_file contents file None is long = absurd long
 
--- a fetch that failed refuses a file only as too long
-pub reads_refused : {A : Type 0} (said : List ℕ → Option A) (told : Option Contents) (name : List ℕ) (e : ReadFault)
-    → (e ≡ TooLong → HoldsMore told name 1048576) → e ≢ NotBuilt → IsRefused e
-    → Reads told name (λ text. read_as said text ≡ Err (code_of e))
-reads_refused said told name TooLong more built is = reads_long said told name (more refl)
-reads_refused said told name NotBuilt more built is = absurd (built refl)
-reads_refused said told name Unread more built is = absurd is
-reads_refused said told name NoMemory more built is = absurd is
+long_untold : (file : List ℕ) (n : ℕ) → 1048576 < n → IsRefusedAs None file 1 1 TooLong
+long_untold file n long = long_text None file (replicate n 0) (rw length-replicate long) tt
+
+pub too_long_is : (told : Option Contents) (file : List ℕ) → HoldsMore told file 1048576 → IsRefusedAs told file 1 1 TooLong
+too_long_is (Some contents) file more = long_file contents file (contents file) refl more
+too_long_is None file more = long_untold file 1048577 (omega arith)

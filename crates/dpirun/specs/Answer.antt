@@ -1,18 +1,20 @@
 -- The answer of the program to its words and files.
-use Rattle.std.specs.Prelude.{ℕ, ℤ, pos, negsuc, List, [], ◌++◌, Option, Some, None, Result, Ok, Err, nat_lt, length, codes, option_map, option_and_then, if◌then◌else◌}
+use Rattle.std.specs.Prelude.{◌≡◌, ℕ, ℤ, pos, negsuc, true, false, List, [], ◌∷◌, ◌++◌, Option, Some, None, nat_lt, codes, option_map, option_and_then, if◌then◌else◌}
 use Rattle.std.specs.Fmt.{signed_decimal}
-use Rattle.std.specs.Option.{ok_or, option_map_or}
+use Rattle.std.specs.Option.{option_map_or}
 use Rattle.std.specs.Result.{result_ok}
 use Rattle.dpi_lex.specs.Languages.{sv_lexed, c_lexed}
 use Rattle.dpi_lex.specs.Lexed.{Lexed}
 use Rattle.dpi_lex.specs.Place.{line_of, column_of}
 use Rattle.dpi_lex.specs.Words.{words_of, place_of}
-use Rattle.dpi_ports.specs.Told.{Contents}
+use Rattle.dpi_ports.specs.Told.{Contents, Holds}
 use Rattle.dpi_text.specs.FaultLine.{fault_line_of}
-use Rattle.dpirun.specs.Command.{FileNames, command_of}
+use Rattle.dpirun.specs.Command.{FileNames, language_of, is_command, pair_of, first_of}
+use Rattle.dpirun.specs.Faults.{code_bytes, IsAccepted, IsRefusal}
 use Rattle.dpirun.specs.Pair.{CallOf, call_of, body_of, sum_of, plus}
 use Rattle.dpirun.specs.declared.outcome.Sum.{Sum}
 use Rattle.dpirun.specs.declared.pair.Body.{Body}
+use Rattle.dpirun.specs.declared.refusal.Code.{Code}
 
 -- what a run comes to: its status, and what it prints to both sinks
 pub record Outcome : Type 0 where
@@ -24,9 +26,13 @@ pub record Outcome : Type 0 where
 abbrev pub bad_words : Outcome
 bad_words = record { status = 2; out = []; err = codes "dpirun: bad words\n" }
 
--- a file is refused whole, with this code
-abbrev pub refused : List ℕ → List ℕ → Outcome
-refused file code = record { status = 1; out = []; err = fault_line_of file 1 1 code }
+-- a file is refused at this line and column, with this code
+abbrev pub refused : List ℕ → ℕ → ℕ → List ℕ → Outcome
+refused file line column code = record { status = 1; out = []; err = fault_line_of file line column code }
+
+-- all files are accepted, and aren't of the form that runs
+abbrev pub not_built : List ℕ → Outcome
+not_built file = refused file 1 1 (codes "NotBuilt")
 
 -- a file could not be read
 abbrev pub unread : List ℕ → Outcome
@@ -43,15 +49,7 @@ ran file sum =
     option_map_or (λ value. record { status = 0; out = signed_decimal value ++ codes "\n"; err = [] }) sum.value
     (record { status = 3; out = []; err = fault_line_of file sum.line sum.column (codes "trap SignedOverflow") })
 
--- a file of at most a mebibyte that says something of the form; else the code of its refusal
-abbrev pub read_as : {A : Type 0} → (List ℕ → Option A) → List ℕ → Result A (List ℕ)
-read_as said text = if nat_lt 1048576 (length text) then Err (codes "TooLong") else ok_or (said text) (codes "NotBuilt")
-
--- the call in the text of a SystemVerilog file
-abbrev pub call_in_text : List ℕ → Option CallOf
-call_in_text text = option_and_then (λ ts. call_of (words_of (record { text = text; tokens = ts }))) (result_ok (sv_lexed text))
-
--- the sum of a body, and the place of its `+`, in the text of a C file with these tokens
+-- the sum of a body, and the place of its `+`, in a C file with these tokens
 abbrev pub sum_of_body : CallOf → Lexed → Body → Sum
 sum_of_body call l body = record {
   value = held_by_int (sum_of call.left call.right body);
@@ -59,27 +57,59 @@ sum_of_body call l body = record {
   column = column_of l.text (place_of l plus);
 }
 
--- the sum that the text of a C file makes of a call
-abbrev pub sum_in_text : CallOf → List ℕ → Option Sum
-sum_in_text call text =
-    option_and_then (λ ts. let l : Lexed = record { text = text; tokens = ts } in
-    option_map (sum_of_body call l) (body_of call.function (words_of l))) (result_ok (c_lexed text))
+-- the sum that a C file makes of the call in a SystemVerilog file, where both are of the form that runs
+abbrev pub sum_of_tokens : Lexed → Lexed → Option Sum
+sum_of_tokens sv c = option_and_then (λ call. option_map (sum_of_body call c) (body_of call.function (words_of c))) (call_of (words_of sv))
 
--- what the C file comes to, after its reading
-abbrev pub from_c : List ℕ → Result Sum (List ℕ) → Outcome
-from_c file (Ok sum) = ran file sum
-from_c file (Err code) = refused file code
+-- the same of both texts
+abbrev pub sum_of_texts : List ℕ → List ℕ → Option Sum
+sum_of_texts sv c =
+    option_and_then (λ ss. option_and_then (λ cs. sum_of_tokens (record { text = sv; tokens = ss }) (record { text = c; tokens = cs })) (result_ok (c_lexed c))) (result_ok (sv_lexed sv))
 
--- what the pair comes to, after the reading of the SystemVerilog file; None where the C file is
--- needed and isn't there
-abbrev pub from_sv : FileNames → Contents → Result CallOf (List ℕ) → Option Outcome
-from_sv files contents (Ok call) = option_map (λ text. from_c files.c (read_as (sum_in_text call) text)) (contents files.c)
-from_sv files contents (Err code) = Some (refused files.sv code)
+-- what a pair of files with these texts comes to
+abbrev pub run_of_pair : FileNames → List (List ℕ) → Outcome
+run_of_pair files (sv ∷ c ∷ []) = option_map_or (ran files.c) (sum_of_texts sv c) (not_built files.sv)
+run_of_pair files _ = not_built files.sv
 
--- what the files come to, each looked at in its turn; None where one is needed that isn't there
-abbrev pub answer_of_files : FileNames → Contents → Option Outcome
-answer_of_files files contents = option_and_then (λ text. from_sv files contents (read_as call_in_text text)) (contents files.sv)
+-- what files with these texts come to, all of them accepted
+abbrev pub run_of : List (List ℕ) → List (List ℕ) → Outcome
+run_of words texts = option_map_or (λ files. run_of_pair files texts) (pair_of words) (not_built (first_of words))
 
--- the answer to the words and the contents of the files; None where a file is needed that isn't there
-abbrev pub answer_of : List (List ℕ) → Contents → Option Outcome
-answer_of words contents = option_map_or (λ files. answer_of_files files contents) (command_of words) (Some bad_words)
+module _ (told : Option Contents) where
+  -- the file has this text, where its source tells that, and the text is accepted
+  pub record IsGood (file text : List ℕ) : Type 0 where
+    pub held : Holds told file text
+    pub accepted : IsAccepted (language_of file) text
+
+  -- each file has its text
+  abbrev pub AreGood : List (List ℕ) → List (List ℕ) → Type 0
+  AreGood [] [] = Unit {0}
+  AreGood [] (text ∷ texts) = ⊥
+  AreGood (file ∷ files) [] = ⊥
+  AreGood (file ∷ files) (text ∷ texts) = IsGood file text × AreGood files texts
+
+  -- the file is one of a command's, and those before it are accepted
+  pub record Reaches (words : List (List ℕ)) (file : List ℕ) : Type 0 where
+    pub command : is_command words ≡ true
+    pub before : List (List ℕ)
+    pub after : List (List ℕ)
+    pub split : words ≡ before ++ file ∷ after
+    pub texts : List (List ℕ)
+    pub good : AreGood before texts
+
+  -- the file has a text, as above, that is refused
+  pub record IsRefusedAs (file : List ℕ) (line column : ℕ) (code : Code) : Type 0 where
+    pub text : List ℕ
+    pub held : Holds told file text
+    pub place : ℕ
+    pub refusal : IsRefusal (language_of file) text code place
+    pub line_is : line ≡ line_of text place
+    pub column_is : column ≡ column_of text place
+
+  -- The outcome is the answer: to words that are no command, to a file that is refused while those before it aren't, or to
+  -- files that are all accepted.
+  pub data IsAnswer (words : List (List ℕ)) (outcome : Outcome) : Type 0 where
+    other_words : is_command words ≡ false → outcome ≡ bad_words → IsAnswer words outcome
+    refusal : (file : List ℕ) (line column : ℕ) (code : Code) → Reaches words file → IsRefusedAs file line column code
+        → outcome ≡ refused file line column (code_bytes code) → IsAnswer words outcome
+    accepted : is_command words ≡ true → (texts : List (List ℕ)) → AreGood words texts → outcome ≡ run_of words texts → IsAnswer words outcome

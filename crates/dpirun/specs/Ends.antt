@@ -1,39 +1,19 @@
 -- How a call of the program ends: with the answer, at a file that isn't read, or cut short.
-use Rattle.std.specs.Prelude.{◌≡◌, ◌⊎◌, ◌==◌, ℕ, List, [], ◌++◌, Option, Some, None, IfSome, Contains, take, codes, if◌then◌else◌}
-use Rattle.std.specs.Str.{bytes_eq}
-use Rattle.dpi_ports.specs.Told.{Contents, HasRisen, Holds, Takes}
-use Rattle.dpirun.specs.Answer.{Outcome, unread}
+use Rattle.std.specs.Prelude.{◌≡◌, ◌⊎◌, ◌==◌, ℕ, List, [], ◌++◌, Option, IfSome, take, codes, if◌then◌else◌}
+use Rattle.dpi_ports.specs.Told.{Contents, HasRisen, Takes}
+use Rattle.dpirun.specs.Answer.{Outcome, unread, Reaches, IsAnswer}
 
--- contents that are the told ones, where they are told
-abbrev pub AsTold : Option Contents → Contents → Type 0
-AsTold told contents = IfSome told (λ t. contents ≡ t)
-
--- the contents without one file
-abbrev pub without : Contents → List ℕ → Contents
-without contents file asked = if bytes_eq asked file then None else contents asked
-
--- the outcome is the answer
-pub record IsAnswer (told : Option Contents) (answer : Contents → Option Outcome) (outcome : Outcome) : Type 0 where
-  pub contents : Contents
-  pub as_told : AsTold told contents
-  pub is : answer contents ≡ Some outcome
-
--- the fetch of a file that is named failed, which was counted: without that file there is no
--- answer, so all files before it were accepted
-pub record IsUnread (told : Option Contents) (named : List (List ℕ)) (answer : Contents → Option Outcome) (old new : ℕ) (last : Option (List ℕ)) (outcome : Outcome) : Type 0 where
-  pub contents : Contents
-  pub as_told : AsTold told contents
+-- the fetch of a file failed, which was counted; the files before it were accepted
+pub record IsUnread (told : Option Contents) (words : List (List ℕ)) (old new : ℕ) (last : Option (List ℕ)) (outcome : Outcome) : Type 0 where
   pub file : List ℕ
-  pub is_named : Contains named file
-  pub needed : answer (without contents file) ≡ None
+  pub reached : Reaches told words file
   pub risen : HasRisen old new
   pub last_is : IfSome last (λ name. name ≡ file)
   pub is : outcome ≡ unread file
 
 -- an outcome that is the answer, or stands for a file whose fetch failed
-abbrev pub Ends : Option Contents → List (List ℕ) → (Contents → Option Outcome) → ℕ → ℕ → Option (List ℕ) → Outcome → Type 0
-Ends told named answer old new last outcome =
-    IsAnswer told answer outcome ⊎ IsUnread told named answer old new last outcome
+abbrev pub Ends : Option Contents → List (List ℕ) → ℕ → ℕ → Option (List ℕ) → Outcome → Type 0
+Ends told words old new last outcome = IsAnswer told words outcome ⊎ IsUnread told words old new last outcome
 
 -- the line that ends a call cut short, for statuses 8 and 9
 abbrev pub last_line : ℕ → List ℕ
@@ -45,14 +25,8 @@ pub record TakesFronts (old new : Option (List ℕ)) (first second : List ℕ) :
   pub count_after : ℕ
   pub takes : Takes old new (take count first ++ take count_after second)
 
--- what was due when a call was cut short: an answer, the line on a file that is named, or nothing yet
-pub data IsDue (told : Option Contents) (named : List (List ℕ)) (answer : Contents → Option Outcome) : Outcome → Type 0 where
-  answered : (outcome : Outcome) → IsAnswer told answer outcome → IsDue told named answer outcome
-  failed : (file : List ℕ) → Contains named file → IsDue told named answer (unread file)
-  nothing : IsDue told named answer (record { status = 9; out = []; err = [] })
-
--- the file of that name has a text of which this holds, where the files are told
-pub record Reads (told : Option Contents) (name : List ℕ) (P : List ℕ → Type 0) : Type 0 where
-  pub text : List ℕ
-  pub held : Holds told name text
-  pub is : P text
+-- what was due when a call was cut short: an answer, the line on a file that could not be read, or nothing yet
+pub data IsDue (told : Option Contents) (words : List (List ℕ)) : Outcome → Type 0 where
+  answered : (outcome : Outcome) → IsAnswer told words outcome → IsDue told words outcome
+  failed : (file : List ℕ) → Reaches told words file → IsDue told words (unread file)
+  nothing : IsDue told words (record { status = 9; out = []; err = [] })

@@ -1,6 +1,7 @@
 pub mod Answer
 pub mod Command
 pub mod Ends
+pub mod Faults
 pub mod Form
 pub mod Literal
 pub mod Names

@@ -1,10 +1,8 @@
 -- What a call of the program may end with, and what shows it.
-use Rattle.std.specs.Prelude.{◌≡◌, ℕ, List, Option, codes}
+use Rattle.std.specs.Prelude.{◌≡◌, ℕ, List, Option}
 use Rattle.dpi_ports.specs.Told.{Contents, Takes, TakesFront}
-use Rattle.dpirun.specs.Answer.{Outcome, unread, refused, answer_of}
-use Rattle.dpirun.specs.Ends.{IsAnswer, IsUnread, IsDue, TakesFronts, last_line}
-use Rattle.dpirun.specs.declared.reading.ReadFault.{ReadFault}
-use Rattle.dpirun.specs.declared.reading.ReadFault.TheVariants.{TooLong, NotBuilt, Unread, NoMemory}
+use Rattle.dpirun.specs.Answer.{Outcome, IsAnswer}
+use Rattle.dpirun.specs.Ends.{IsUnread, IsDue, TakesFronts, last_line}
 
 -- what both sinks tell before a call and after it
 pub record Printed : Type 0 where
@@ -26,26 +24,19 @@ pub record TakesAll (sinks : Printed) (outcome : Outcome) : Type 0 where
 -- the status and the bytes are those of the answer
 pub record Answers (told : Option Contents) (words : List (List ℕ)) (sinks : Printed) (status : ℕ) : Type 0 where
   pub outcome : Outcome
-  pub is : IsAnswer told (answer_of words) outcome
+  pub is : IsAnswer told words outcome
   pub status_is : outcome.status ≡ status
   pub takes : TakesAll sinks outcome
 
 -- a fetch failed in this call, and the line to `err` says at which file
 pub record LeavesUnread (told : Option Contents) (words : List (List ℕ)) (old new : ℕ) (last : Option (List ℕ)) (sinks : Printed) : Type 0 where
   pub outcome : Outcome
-  pub is : IsUnread told words (answer_of words) old new last outcome
+  pub is : IsUnread told words old new last outcome
   pub takes : TakesAll sinks outcome
 
 -- each sink took some first bytes of what it was due, and `err` then some of the status's line
 pub record IsCut (told : Option Contents) (words : List (List ℕ)) (sinks : Printed) (status : ℕ) : Type 0 where
   pub due : Outcome
-  pub due_is : IsDue told words (answer_of words) due
+  pub due_is : IsDue told words due
   pub out : TakesFront sinks.out_old sinks.out_new due.out
   pub err : TakesFronts sinks.err_old sinks.err_new due.err (last_line status)
-
--- what comes of a file that says nothing that can be run
-abbrev pub ComesOf : List ℕ → ReadFault → Outcome → Type 0
-ComesOf file TooLong outcome = outcome ≡ refused file (codes "TooLong")
-ComesOf file NotBuilt outcome = outcome ≡ refused file (codes "NotBuilt")
-ComesOf file Unread outcome = outcome ≡ unread file
-ComesOf file NoMemory outcome = ⊥

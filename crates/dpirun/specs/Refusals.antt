@@ -1,22 +1,40 @@
--- Why a file says nothing that can be run, and the code with which it is refused.
-use Rattle.std.specs.Prelude.{◌≡◌, ◌⊎◌, ℕ, List, [], Option, None, codes}
+-- What stops the reading of a file, and what shows the cause.
+use Rattle.std.specs.Prelude.{◌≡◌, ℕ, List, Option, Ok}
+use Rattle.dpi_lex.specs.Lexed.{Lexed}
+use Rattle.dpi_lex.specs.Place.{line_of, column_of}
+use Rattle.dpi_ports.specs.Told.{Contents}
+use Rattle.dpirun.specs.Answer.{Outcome, unread, refused, IsGood, IsRefusedAs}
+use Rattle.dpirun.specs.Command.{language_of}
+use Rattle.dpirun.specs.Faults.{code_bytes, lexed_as, IsRefusal}
+use Rattle.dpirun.specs.declared.command.Language.{Language}
 use Rattle.dpirun.specs.declared.reading.ReadFault.{ReadFault}
-use Rattle.dpirun.specs.declared.reading.ReadFault.TheVariants.{TooLong, NotBuilt, Unread, NoMemory}
+use Rattle.dpirun.specs.declared.reading.ReadFault.TheVariants.{Refused, Unread, NoMemory}
+use Rattle.dpirun.specs.declared.refusal.Refusal.{Refusal}
 
--- the code that is printed; none where the file wasn't looked at
-abbrev pub code_of : ReadFault → List ℕ
-code_of TooLong = codes "TooLong"
-code_of NotBuilt = codes "NotBuilt"
-code_of Unread = []
-code_of NoMemory = []
+-- a fault that is a refusal is such a one
+abbrev pub WhenRefused : (Refusal → Type 0) → ReadFault → Type 0
+WhenRefused P (Refused r) = P r
+WhenRefused P Unread = Unit {0}
+WhenRefused P NoMemory = Unit {0}
 
--- the file was looked at, and is refused
-abbrev pub IsRefused : ReadFault → Type 0
-IsRefused TooLong = Unit {0}
-IsRefused NotBuilt = Unit {0}
-IsRefused Unread = ⊥
-IsRefused NoMemory = ⊥
+-- the text is refused so
+pub record IsOf (language : Language) (text : List ℕ) (r : Refusal) : Type 0 where
+  pub place : ℕ
+  pub refusal : IsRefusal language text r.code place
+  pub line_is : r.line ≡ line_of text place
+  pub column_is : r.column ≡ column_of text place
 
--- a text doesn't say what it should; or memory ran out
-abbrev pub IsUnfit : {A : Type 0} → Option A → ReadFault → Type 0
-IsUnfit said fault = (fault ≡ NoMemory) ⊎ (fault ≡ NotBuilt) × (said ≡ None)
+-- the file is refused so
+abbrev pub IsOfFile : Option Contents → List ℕ → Refusal → Type 0
+IsOfFile told file r = IsRefusedAs told file r.line r.column r.code
+
+-- the file has these tokens, and is accepted
+pub record IsFound (told : Option Contents) (file : List ℕ) (l : Lexed) : Type 0 where
+  pub good : IsGood told file l.text
+  pub lexed_is : lexed_as (language_of file) l.text ≡ Ok l.tokens
+
+-- what comes of a file that isn't accepted
+abbrev pub ComesOf : List ℕ → ReadFault → Outcome → Type 0
+ComesOf file (Refused r) outcome = outcome ≡ refused file r.line r.column (code_bytes r.code)
+ComesOf file Unread outcome = outcome ≡ unread file
+ComesOf file NoMemory outcome = ⊥

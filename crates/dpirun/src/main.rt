@@ -1,8 +1,10 @@
-//! The program `dpirun`: one import of the Direct Programming Interface, from files to bytes.
+//! The program `dpirun`: files of SystemVerilog and C, checked against the grammars of their
+//! languages, and one import of the Direct Programming Interface, from files to bytes.
 //!
-//! Words, lines and statuses are those of `specs/Answer.antt`, which knows nothing of the code; how
-//! a call may end, and what shows the cause, stands in `specs/Program.antt`. A place is a line and
-//! a column from 1, columns in bytes.
+//! Words, lines and statuses are those of `specs/Answer.antt`, which knows nothing of the code;
+//! which text is refused, and where, stands in `specs/Faults.antt`; how a call may end, and what
+//! shows the cause, in `specs/Program.antt`. A place is a line and a column from 1, columns in
+//! bytes.
 #![tactic(auto)]
 
 mod command;
@@ -15,6 +17,7 @@ mod outcome;
 mod pair;
 mod program;
 mod reading;
+mod refusal;
 #[cfg(test)]
 mod tests;
 

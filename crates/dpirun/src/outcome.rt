@@ -1,9 +1,12 @@
 //! What a run comes to: a status, and the bytes for both sinks.
 
 ghost use Rattle.std.specs.Prelude.{◌≡◌, [], IfOk};
-ghost use Rattle.dpirun.specs.Answer.{bad_words, refused, unread, ran};
+ghost use Rattle.dpi_text.specs.FaultLine.{fault_line_of};
+ghost use Rattle.dpirun.specs.Answer.{bad_words, refused, not_built, unread, ran};
+ghost use Rattle.dpirun.specs.Faults.{code_bytes};
 ghost use Rattle.dpirun.specs.Shown.{shown};
 
+use crate::refusal::Refusal;
 use dpi_ports::NoMemory;
 use dpi_text::fault_line;
 use std::alloc::Global;
@@ -48,13 +51,36 @@ impl Outcome {
         Ok(Outcome::failed(alloc, 2, Vec::from_slice(alloc, b"dpirun: bad words\n")?))
     }
 
-    /// Status 1, for a file that is refused as a whole: the fault line stands at its first byte.
-    pub fn refused(alloc: Global, file: &str, code: &[u8]) -> Result<Outcome, NoMemory>
-        ensures { IfOk result (λ o. shown o ≡ refused file.now code.now) }
+    fn faulty(
+        alloc: Global,
+        status: u8,
+        file: &str,
+        place: (u32, u32),
+        code: &[u8],
+    ) -> Result<Outcome, NoMemory>
+        ensures { IfOk result (λ o. shown o
+            ≡ record { status = status; out = []; err = fault_line_of file.now place.0 place.1 code.now }) }
     {
         let mut err = Vec::new(alloc);
-        fault_line(alloc, file.as_bytes(), 1, 1, code, &mut err)?;
-        Ok(Outcome::failed(alloc, 1, err))
+        fault_line(alloc, file.as_bytes(), place.0, place.1, code, &mut err)?;
+        Ok(Outcome::failed(alloc, status, err))
+    }
+
+    /// Status 1, for a file that is refused: the fault line stands at the refusal's place.
+    pub fn refused(alloc: Global, file: &str, refusal: Refusal) -> Result<Outcome, NoMemory>
+        ensures { IfOk result (λ o. shown o
+            ≡ refused file.now refusal.line refusal.column (code_bytes refusal.code)) }
+    {
+        let place = (refusal.line, refusal.column);
+        Outcome::faulty(alloc, 1, file, place, refusal.code.bytes())
+    }
+
+    /// Status 1, for files that are all accepted, and aren't of the form that runs: the fault line
+    /// stands at the first byte of the first one.
+    pub fn not_built(alloc: Global, file: &str) -> Result<Outcome, NoMemory>
+        ensures { IfOk result (λ o. shown o ≡ not_built file.now) }
+    {
+        Outcome::faulty(alloc, 1, file, (1, 1), b"NotBuilt")
     }
 
     /// Status 7, for a file that could not be read.
@@ -83,10 +109,8 @@ impl Outcome {
                 })
             }
             None => {
-                let mut err = Vec::new(alloc);
-                let code = b"trap SignedOverflow";
-                fault_line(alloc, file.as_bytes(), sum.line, sum.column, code, &mut err)?;
-                Ok(Outcome::failed(alloc, 3, err))
+                let place = (sum.line, sum.column);
+                Outcome::faulty(alloc, 3, file, place, b"trap SignedOverflow")
             }
         }
     }

@@ -4,10 +4,11 @@ ghost use Rattle.std.specs.Prelude.{◌≡◌, ◌<◌, option_map, map, length,
 ghost use Rattle.dpi_lex.specs.Words.{words_of};
 ghost use Rattle.dpirun.specs.Form.{bytes_at};
 ghost use Rattle.dpirun.specs.Pair.{call_of, call_from, call_shown, body_of, body_from, parameter_of, argument, sum_of};
-ghost use Rattle.dpirun.specs.Answer.{held_by_int};
+ghost use Rattle.dpirun.specs.Answer.{held_by_int, sum_of_body, sum_of_tokens};
 
 use crate::form::holes;
 use crate::literal::value;
+use crate::outcome::Sum;
 use dpi_lex::Tokens;
 use dpi_ports::NoMemory;
 use std::alloc::Global;
@@ -190,5 +191,32 @@ impl Parameter {
             Parameter::First => call.left.cast_signed(),
             Parameter::Second => call.right.cast_signed(),
         }
+    }
+}
+
+// the sum of a body, and the place of its `+`
+fn sum_at(tokens: &Tokens, call: &Call, body: Body) -> Sum
+    requires { PLUS < length tokens.now.tokens }
+    ensures { result ≡ sum_of_body (call_shown call.now) tokens.now body }
+{
+    let (line, column) = tokens.line_column(tokens.place(PLUS));
+    Sum {
+        value: body.sum(call),
+        line,
+        column,
+    }
+}
+
+/// The sum that a C file makes of the call in a SystemVerilog file, or None where one of them has
+/// another form.
+pub fn sum_of(alloc: Global, sv: &Tokens, c: &Tokens) -> Result<Option<Sum>, NoMemory>
+    ensures { IfOk result (λ sum. sum ≡ sum_of_tokens sv.now c.now) }
+{
+    let Some(call) = Call::of(alloc, sv)? else {
+        return Ok(None);
+    };
+    match Body::of(alloc, c, &call.function)? {
+        Some(body) => Ok(Some(sum_at(c, &call, body))),
+        None => Ok(None),
     }
 }

@@ -1,28 +1,27 @@
-//! The reading of both files.
+//! The reading of a file.
 
-ghost use Rattle.std.specs.Prelude.{◌≡◌, ◌≢◌, ◌<◌, ◌≤◌, length, IfOk, IfErr, IfSome, IsErrOf};
+ghost use Rattle.std.specs.Prelude.{◌≡◌, ◌≢◌, ◌≤◌, OnOk, IfOk, IfErr, IfSome, IsErrOf};
+ghost use Rattle.dpi_lex.specs.Lexed.{IsText};
+ghost use Rattle.dpi_lex.specs.Stretches as lex;
 ghost use Rattle.dpi_ports.specs.Told.{HasRisen, Holds, HoldsMore};
-ghost use Rattle.dpirun.specs.Answer.{read_as, call_in_text, sum_of_body, sum_in_text};
-ghost use Rattle.dpirun.specs.Ends.{Reads};
-ghost use Rattle.dpirun.specs.Pair.{call_shown};
-ghost use Rattle.dpirun.specs.Refusals.{IsRefused, IsUnfit, code_of};
+ghost use Rattle.dpirun.specs.Faults.{lexed_as, IsAccepted};
+ghost use Rattle.dpirun.specs.Refusals.{WhenRefused, IsOf, IsOfFile, IsFound};
+ghost use Rattle.dpirun.specs.declared.command.Language.TheVariants as languages;
+ghost use Rattle.dpirun.specs.declared.reading.ReadFault.TheVariants as faults;
 
-use crate::outcome::Sum;
-use crate::pair::{Body, Call, PLUS};
+use crate::command::{Language, language_of};
+use crate::refusal::{Code, Refusal};
 use dpi_lex::{LexFault, Tokens, c_tokens, sv_tokens};
 use dpi_ports::{FetchFault, Files, NoMemory};
 use std::alloc::Global;
 use thiserror::Error;
 
-/// Why a file says nothing that can be run.
+/// Why a file isn't accepted.
 #[derive(Clone, Copy, Debug, PartialEq, Eq, Error)]
 pub enum ReadFault {
-    /// It has more than 1,048,576 bytes.
-    #[error("the file is too long")]
-    TooLong,
-    /// It has no tokens, or isn't of the form that runs.
-    #[error("the file is of no form that runs")]
-    NotBuilt,
+    /// It is refused.
+    #[error("the file is refused")]
+    Refused(Refusal),
     /// Its fetch failed.
     #[error("the file could not be read")]
     Unread,
@@ -32,123 +31,139 @@ pub enum ReadFault {
 }
 
 impl From<NoMemory> for ReadFault {
-    ghost use Rattle.dpirun.specs.declared.reading.ReadFault.TheVariants as Faults;
-
-    ghost from_gives = { λ _ e. e ≡ Faults.NoMemory };
+    ghost from_gives = { λ _ e. e ≡ faults.NoMemory };
 
     fn from(_: NoMemory) -> ReadFault {
         ReadFault::NoMemory
     }
 }
 
-impl ReadFault {
-    /// The code with which the file is refused; empty where it wasn't looked at.
-    pub fn code(self) -> &'static [u8]
-        ensures { result.now ≡ code_of self }
-    {
-        match self {
-            ReadFault::TooLong => b"TooLong",
-            ReadFault::NotBuilt => b"NotBuilt",
-            ReadFault::Unread | ReadFault::NoMemory => b"",
-        }
-    }
-}
-
-// the text of a file
-fn fetched<F: Files>(alloc: Global, files: &mut F, name: &str) -> Result<Vec<u8>, ReadFault>
+// the text of a file, of at most a mebibyte
+fn fetched<F: Files>(alloc: Global, files: &mut F, name: &str) -> Result<Vec<u8>, FetchFault>
     ensures ok { IfOk result (λ text. Holds (F.told files.old) name.now text.items) }
-    ensures within { IfOk result (λ text. length text.items ≤ 1_048_576) }
-    ensures too_long { IsErrOf result ReadFault.TooLong → HoldsMore (F.told files.old) name.now 1_048_576 }
-    ensures built { result ≢ Err ReadFault.NotBuilt }
-    ensures unread { IsErrOf result ReadFault.Unread → HasRisen (F.faults files.old) (F.faults files.new) }
-    ensures named { IsErrOf result ReadFault.Unread → IfSome (F.last_fault files.new) (λ n. n ≡ name.now) }
+    ensures within { IfOk result (λ text. IsText text.items) }
+    ensures too_long { IsErrOf result FetchFault.TooLong → HoldsMore (F.told files.old) name.now 1_048_576 }
+    ensures unread { IsErrOf result FetchFault.Failed → HasRisen (F.faults files.old) (F.faults files.new) }
+    ensures named { IsErrOf result FetchFault.Failed → IfSome (F.last_fault files.new) (λ n. n ≡ name.now) }
     ensures kept { F.told files.new ≡ F.told files.old }
     ensures later { F.faults files.old ≤ F.faults files.new }
 {
     let mut text = Vec::new(alloc);
-    match files.fetch(alloc, name, &mut text) {
-        Ok(()) => Ok(text),
-        Err(FetchFault::Failed) => Err(ReadFault::Unread),
-        Err(FetchFault::TooLong) => Err(ReadFault::TooLong),
-        Err(FetchFault::NoMemory) => Err(ReadFault::NoMemory),
-    }
+    files.fetch(alloc, name, &mut text)?;
+    Ok(text)
 }
 
-// the call in a text
-fn call_in(alloc: Global, text: &[u8]) -> Result<Call, ReadFault>
-    requires { length text.now ≤ 1_048_576 }
-    ensures ok { IfOk result (λ c. call_in_text text.now ≡ Some (call_shown c)) }
-    ensures err { IfErr result (IsUnfit (call_in_text text.now)) }
+// the tokens of a text, or its first fault
+fn tokens_of(alloc: Global, language: Language, text: &[u8]) -> Result<Tokens, LexFault>
+    requires { IsText text.now }
+    ensures text { IfOk result (λ l. l.text ≡ text.now) }
+    ensures tokens { IfOk result (λ l. lexed_as language text.now ≡ Ok l.tokens) }
+    ensures fault { IfErr result (lex.IsRefusal (lexed_as language text.now)) }
 {
-    match sv_tokens(alloc, text) {
-        Ok(tokens) => Call::of(alloc, &tokens)?.ok_or(ReadFault::NotBuilt),
-        Err(LexFault::NoMemory) => Err(ReadFault::NoMemory),
-        Err(_) => Err(ReadFault::NotBuilt),
+    match language {
+        Language::SystemVerilog => sv_tokens(alloc, text),
+        Language::C => c_tokens(alloc, text),
     }
 }
 
-// the sum of a body, and the place of its `+`
-fn sum_at(tokens: &Tokens, call: &Call, body: Body) -> Sum
-    requires { PLUS < length tokens.now.tokens }
-    ensures { result ≡ sum_of_body (call_shown call.now) tokens.now body }
+// the same, with the line and column of the fault
+fn lexed(alloc: Global, language: Language, text: &[u8]) -> Result<Tokens, ReadFault>
+    requires { IsText text.now }
+    ensures text { IfOk result (λ l. l.text ≡ text.now) }
+    ensures tokens { IfOk result (λ l. lexed_as language text.now ≡ Ok l.tokens) }
+    ensures refused { IfErr result (WhenRefused (IsOf language text.now)) }
+    ensures read { result ≢ Err faults.Unread }
 {
-    let (line, column) = tokens.line_column(tokens.place(PLUS));
-    Sum {
-        value: body.sum(call),
-        line,
-        column,
-    }
+    let (code, place) = match tokens_of(alloc, language, text) {
+        Ok(tokens) => return Ok(tokens),
+        Err(LexFault::BadByte { place }) => (Code::BadByte, place),
+        Err(LexFault::BadNumber { place }) => (Code::BadNumber, place),
+        Err(LexFault::Unclosed { place }) => (Code::Unclosed, place),
+        Err(LexFault::NoMemory) => return Err(ReadFault::NoMemory),
+    };
+    Err(ReadFault::Refused(Refusal::at(text, place, code)))
 }
 
-// the sum that a text makes of the call
-fn sum_in(alloc: Global, text: &[u8], call: &Call) -> Result<Sum, ReadFault>
-    requires { length text.now ≤ 1_048_576 }
-    ensures ok { IfOk result (λ s. sum_in_text (call_shown call.now) text.now ≡ Some s) }
-    ensures err { IfErr result (IsUnfit (sum_in_text (call_shown call.now) text.now)) }
+// that the tokens of a text are a SystemVerilog file's
+fn sv_parsed(alloc: Global, tokens: &Tokens) -> Result<(), ReadFault>
+    requires text { IsText tokens.now.text }
+    requires tokens { lexed_as languages.SystemVerilog tokens.now.text ≡ Ok tokens.now.tokens }
+    ensures ok { OnOk result (IsAccepted languages.SystemVerilog tokens.now.text) }
+    ensures refused { IfErr result (WhenRefused (IsOf languages.SystemVerilog tokens.now.text)) }
+    ensures read { result ≢ Err faults.Unread }
 {
-    match c_tokens(alloc, text) {
-        Ok(tokens) => match Body::of(alloc, &tokens, &call.function)? {
-            Some(body) => Ok(sum_at(&tokens, call, body)),
-            None => Err(ReadFault::NotBuilt),
-        },
-        Err(LexFault::NoMemory) => Err(ReadFault::NoMemory),
-        Err(_) => Err(ReadFault::NotBuilt),
+    let (code, token) = match sv_parse::parse(alloc, tokens) {
+        Ok(_) => return Ok(()),
+        Err(sv_parse::ParseFault::Syntax { token }) => (Code::Syntax, token),
+        Err(sv_parse::ParseFault::TooDeep { token }) => (Code::TooDeep, token),
+        Err(sv_parse::ParseFault::NoMemory) => return Err(ReadFault::NoMemory),
+    };
+    Err(ReadFault::Refused(Refusal::at_token(tokens, token, code)))
+}
+
+// that they are a C file's
+fn c_parsed(alloc: Global, tokens: &Tokens) -> Result<(), ReadFault>
+    requires text { IsText tokens.now.text }
+    requires tokens { lexed_as languages.C tokens.now.text ≡ Ok tokens.now.tokens }
+    ensures ok { OnOk result (IsAccepted languages.C tokens.now.text) }
+    ensures refused { IfErr result (WhenRefused (IsOf languages.C tokens.now.text)) }
+    ensures read { result ≢ Err faults.Unread }
+{
+    let (code, token) = match c_parse::parse(alloc, tokens) {
+        Ok(_) => return Ok(()),
+        Err(c_parse::ParseFault::Syntax { token }) => (Code::Syntax, token),
+        Err(c_parse::ParseFault::TooDeep { token }) => (Code::TooDeep, token),
+        Err(c_parse::ParseFault::NoMemory) => return Err(ReadFault::NoMemory),
+    };
+    Err(ReadFault::Refused(Refusal::at_token(tokens, token, code)))
+}
+
+// that they are a file's of the language
+fn parsed(alloc: Global, language: Language, tokens: &Tokens) -> Result<(), ReadFault>
+    requires text { IsText tokens.now.text }
+    requires tokens { lexed_as language tokens.now.text ≡ Ok tokens.now.tokens }
+    ensures ok { OnOk result (IsAccepted language tokens.now.text) }
+    ensures refused { IfErr result (WhenRefused (IsOf language tokens.now.text)) }
+    ensures read { result ≢ Err faults.Unread }
+{
+    match language {
+        Language::SystemVerilog => sv_parsed(alloc, tokens),
+        Language::C => c_parsed(alloc, tokens),
     }
 }
 
-/// Fetches the SystemVerilog file and reads its call.
+// the tokens of a text that is accepted
+fn checked(alloc: Global, language: Language, text: &[u8]) -> Result<Tokens, ReadFault>
+    requires { IsText text.now }
+    ensures text { IfOk result (λ l. l.text ≡ text.now) }
+    ensures tokens { IfOk result (λ l. lexed_as language text.now ≡ Ok l.tokens) }
+    ensures ok { OnOk result (IsAccepted language text.now) }
+    ensures refused { IfErr result (WhenRefused (IsOf language text.now)) }
+    ensures read { result ≢ Err faults.Unread }
+{
+    let tokens = lexed(alloc, language, text)?;
+    parsed(alloc, language, &tokens)?;
+    Ok(tokens)
+}
+
+/// Fetches a file and reads its tokens, which are those of a file of its language's grammar.
 ///
-/// `ReadFault::TooLong` and `ReadFault::NotBuilt` come exactly where the file is so refused,
-/// `ReadFault::Unread` only where the fetch failed, which was counted.
-pub fn read_call<F: Files>(alloc: Global, files: &mut F, name: &str) -> Result<Call, ReadFault>
-    ensures ok { IfOk result (λ c. Reads (F.told files.old) name.now (λ text. read_as call_in_text text ≡ Ok (call_shown c))) }
-    ensures refused { IfErr result (λ e. IsRefused e
-        → Reads (F.told files.old) name.now (λ text. read_as call_in_text text ≡ Err (code_of e))) }
+/// `ReadFault::Refused` comes exactly where the file is too long, has a place where no token
+/// begins, or has a token that its grammar refuses, and `ReadFault::Unread` only where the fetch
+/// failed, which was counted.
+pub fn read<F: Files>(alloc: Global, files: &mut F, name: &str) -> Result<Tokens, ReadFault>
+    ensures ok { IfOk result (IsFound (F.told files.old) name.now) }
+    ensures refused { IfErr result (WhenRefused (IsOfFile (F.told files.old) name.now)) }
     ensures unread { IsErrOf result ReadFault.Unread → HasRisen (F.faults files.old) (F.faults files.new) }
     ensures named { IsErrOf result ReadFault.Unread → IfSome (F.last_fault files.new) (λ n. n ≡ name.now) }
     ensures kept { F.told files.new ≡ F.told files.old }
     ensures later { F.faults files.old ≤ F.faults files.new }
 {
-    let text = fetched(alloc, files, name)?;
-    call_in(alloc, &text)
-}
-
-/// Fetches the C file and reads what it makes of the call; refused as `read_call` is.
-pub fn read_sum<F: Files>(
-    alloc: Global,
-    files: &mut F,
-    name: &str,
-    call: &Call,
-) -> Result<Sum, ReadFault>
-    ensures ok { IfOk result (λ s. Reads (F.told files.old) name.now
-        (λ text. read_as (sum_in_text (call_shown call.now)) text ≡ Ok s)) }
-    ensures refused { IfErr result (λ e. IsRefused e → Reads (F.told files.old) name.now
-        (λ text. read_as (sum_in_text (call_shown call.now)) text ≡ Err (code_of e))) }
-    ensures unread { IsErrOf result ReadFault.Unread → HasRisen (F.faults files.old) (F.faults files.new) }
-    ensures named { IsErrOf result ReadFault.Unread → IfSome (F.last_fault files.new) (λ n. n ≡ name.now) }
-    ensures kept { F.told files.new ≡ F.told files.old }
-    ensures later { F.faults files.old ≤ F.faults files.new }
-{
-    let text = fetched(alloc, files, name)?;
-    sum_in(alloc, &text, call)
+    let text = match fetched(alloc, files, name) {
+        Ok(text) => text,
+        Err(FetchFault::Failed) => return Err(ReadFault::Unread),
+        Err(FetchFault::TooLong) => return Err(ReadFault::Refused(Refusal::too_long())),
+        Err(FetchFault::NoMemory) => return Err(ReadFault::NoMemory),
+    };
+    checked(alloc, language_of(name), &text)
 }

@@ -59,6 +59,19 @@ fn check(
     came: Came,
 ) -> Result<(), Fail> {
     let words = texts(alloc, setting.words)?;
+    check_words(rt, alloc, &words, setting, sv, c, came)
+}
+
+// the same with these words in place of the setting's
+fn check_words(
+    rt: &impl Abort,
+    alloc: Global,
+    words: &Vec<String>,
+    setting: Setting,
+    sv: Option<&str>,
+    c: Option<&str>,
+    came: Came,
+) -> Result<(), Fail> {
     let mut files = MemoryFiles::new(alloc, Vec::from_slice(alloc, setting.fetches)?);
     if let Some(text) = sv {
         files.add(
@@ -75,7 +88,7 @@ fn check(
     let mut out = sink(alloc, setting.outs, setting.most)?;
     let mut err = sink(alloc, setting.errs, setting.most)?;
     let mut steps = Steps::new(PlainLedger::new());
-    let answer = dpirun(alloc, &words, &mut files, &mut out, &mut err, &mut steps);
+    let answer = dpirun(alloc, words, &mut files, &mut out, &mut err, &mut steps);
     let (status, printed, explained) = came;
     assert_eq!(rt; answer.status, status, "{:?} {sv:?} {c:?}", setting.words);
     assert_eq!(rt;
@@ -93,18 +106,19 @@ fn check(
     Ok(())
 }
 
-/// Words that are no line of the command: the first file ends in `.sv` and the second in `.c`,
-/// neither begins with `-`, and there are two.
-const BAD_WORDS: [&[&str]; 9] = [
+/// Words that are no command: there are none, or one of them doesn't end in `.sv` or `.c`, or begins
+/// with `-`.
+const BAD_WORDS: [&[&str]; 10] = [
     &[],
-    &["m.sv"],
-    &["m.c"],
-    &["m.c", "m.sv"],
-    &["m.sv", "m.sv"],
+    &[""],
+    &["m"],
+    &["m.svh"],
+    &["m.sv", "m.C"],
+    &["m.sv", "m.c", "m.h"],
     &["-m.sv", "m.c"],
     &["m.sv", "-m.c"],
-    &["m.sv", "m.c", "m.c"],
-    &["m.sv", "m.C"],
+    &["--", "m.sv", "m.c"],
+    &["m.sv", "m.c", "-"],
 ];
 
 #[test]
@@ -120,6 +134,29 @@ fn other_words_are_bad_words(rt: HostRuntime) -> Result<(), Fail> {
         )?;
     }
     Ok(())
+}
+
+// what comes of so many words `m.sv`
+fn check_many(rt: &impl Abort, alloc: Global, count: usize, came: Came) -> Result<(), Fail> {
+    let mut words = Vec::new(alloc);
+    for _ in 0..count {
+        words.push(String::from_str(alloc, "m.sv")?)?;
+    }
+    check_words(
+        rt,
+        alloc,
+        &words,
+        ADD,
+        Some("module m; endmodule"),
+        None,
+        came,
+    )
+}
+
+#[test]
+fn a_command_has_at_most_a_thousand_files(rt: HostRuntime) -> Result<(), Fail> {
+    check_many(&rt, rt.alloc(), 1000, (1, "", "m.sv:1:1: NotBuilt\n"))?;
+    check_many(&rt, rt.alloc(), 1001, (2, "", "dpirun: bad words\n"))
 }
 
 /// Both actuals, both operands, and what is printed or where the sum traps. The actuals are the
@@ -176,45 +213,48 @@ fn a_sum_is_printed_or_traps_at_its_plus(rt: HostRuntime) -> Result<(), Fail> {
     Ok(())
 }
 
-/// SystemVerilog files that aren't of the form: nothing, a module alone, a delay, a byte that no
-/// token has, a number past 4294967295, an unclosed string, another function in the call, one
-/// name for both formals, and names that aren't free.
-const OTHER_SV: [&str; 11] = [
+/// SystemVerilog files that the grammar has and that aren't of the form: nothing, a module alone, a
+/// second module, another function in the call, one name for both formals, and names that aren't
+/// free.
+const OTHER_SV: [&str; 7] = [
     "",
     "module m; endmodule",
-    "module m; initial #5; endmodule",
-    "module m; import \"DPI-C\" function int f(input int a, input int b); initial $display(\"%0d\", f(2,3)); endmodule \u{1}",
-    "module m; import \"DPI-C\" function int f(input int a, input int b); initial $display(\"%0d\", f(2,4294967296)); endmodule",
-    "module m; import \"DPI-C function int f(input int a, input int b); initial $display(\"%0d\", f(2,3)); endmodule",
-    "module m; import \"DPI-C\" function int f(input int a, input int b); initial $display(\"%0d\", g(2,3)); endmodule",
-    "module m; import \"DPI-C\" function int f(input int a, input int a); initial $display(\"%0d\", f(2,3)); endmodule",
-    "module int; import \"DPI-C\" function int f(input int a, input int b); initial $display(\"%0d\", f(2,3)); endmodule",
+    "module m; import \"DPI-C\" function int add(input int a, input int b); initial $display(\"%0d\", add(2,3)); endmodule module n; endmodule",
+    "module m; import \"DPI-C\" function int add(input int a, input int b); initial $display(\"%0d\", sum(2,3)); endmodule",
+    "module m; import \"DPI-C\" function int add(input int a, input int a); initial $display(\"%0d\", add(2,3)); endmodule",
     "module m; import \"DPI-C\" function int svLeft(input int a, input int b); initial $display(\"%0d\", svLeft(2,3)); endmodule",
-    "module m; import \"DPI-C\" function int f(input int printf, input int b); initial $display(\"%0d\", f(2,3)); endmodule",
+    "module m; import \"DPI-C\" function int add(input int printf, input int b); initial $display(\"%0d\", add(2,3)); endmodule",
 ];
 
-/// C files that aren't of the form: nothing, another function, one name for both parameters, an
-/// operand that is no parameter, another operator, a result of another type, and a keyword.
-const OTHER_C: [&str; 8] = [
+/// The same of C: nothing, another function, one name for both parameters, an operand that is no
+/// parameter, another operator, a result of another type.
+const OTHER_C: [&str; 6] = [
     "",
     "int sum(int a, int b) { return a + b; }",
     "int add(int a, int a) { return a + a; }",
     "int add(int a, int b) { return a + c; }",
     "int add(int a, int b) { return a * b; }",
-    "long add(int a, int b) { return a + b; }",
-    "int add(int while, int b) { return b + b; }",
-    "int add(int a, int b) { return a + b; } int",
+    "short add(int a, int b) { return a + b; }",
+];
+
+/// Files that are all accepted, and aren't one of SystemVerilog and then one of C.
+const OTHER_WORDS: [(&[&str], &str); 5] = [
+    (&["m.sv"], "m.sv:1:1: NotBuilt\n"),
+    (&["m.c"], "m.c:1:1: NotBuilt\n"),
+    (&["m.c", "m.sv"], "m.c:1:1: NotBuilt\n"),
+    (&["m.sv", "m.c", "m.c"], "m.sv:1:1: NotBuilt\n"),
+    (&["m.sv", "m.sv"], "m.sv:1:1: NotBuilt\n"),
 ];
 
 #[test]
-fn a_file_of_another_form_is_not_built(rt: HostRuntime) -> Result<(), Fail> {
+fn files_of_another_form_are_not_built(rt: HostRuntime) -> Result<(), Fail> {
     for sv in OTHER_SV {
         check(
             &rt,
             rt.alloc(),
             ADD,
             Some(sv),
-            None,
+            Some(C),
             (1, "", "m.sv:1:1: NotBuilt\n"),
         )?;
     }
@@ -225,37 +265,215 @@ fn a_file_of_another_form_is_not_built(rt: HostRuntime) -> Result<(), Fail> {
             ADD,
             Some(SV),
             Some(c),
-            (1, "", "m.c:1:1: NotBuilt\n"),
+            (1, "", "m.sv:1:1: NotBuilt\n"),
+        )?;
+    }
+    for (words, line) in OTHER_WORDS {
+        check(
+            &rt,
+            rt.alloc(),
+            Setting { words, ..ADD },
+            Some(SV),
+            Some(C),
+            (1, "", line),
         )?;
     }
     Ok(())
 }
 
-/// The texts that are there, the fetches that fail, and the answer: the first file that can't be
-/// read is named, and a file that is refused hides the ones after it.
-const FAULTS: [(Option<&str>, Option<&str>, &[u64], Came); 6] = [
-    (None, None, &[], (7, "", "dpirun: cannot read m.sv\n")),
-    (None, Some(C), &[], (7, "", "dpirun: cannot read m.sv\n")),
-    (Some(SV), None, &[], (7, "", "dpirun: cannot read m.c\n")),
-    (Some("module"), None, &[], (1, "", "m.sv:1:1: NotBuilt\n")),
+/// SystemVerilog files that are refused, by the rules of tokens (IEEE 1800-2017, clause 5) and by
+/// the grammar: a byte that no token has, a number with a letter behind its `_` and one that is too
+/// large, a string and a comment without an end; a delay, a keyword for a name, and the end of the
+/// file, which stands behind the last byte.
+const REFUSED_SV: [(&str, &str); 13] = [
+    ("\n\n  $time", "m.sv:3:3: BadByte\n"),
+    ("module m; endmodule \u{1}", "m.sv:1:21: BadByte\n"),
     (
+        "module m; int a = 12_ab; endmodule",
+        "m.sv:1:19: BadNumber\n",
+    ),
+    (
+        "module m; int a = 4294967296; endmodule",
+        "m.sv:1:19: BadNumber\n",
+    ),
+    (
+        "module m; import \"DPI-C\nendmodule",
+        "m.sv:1:18: Unclosed\n",
+    ),
+    ("module m;\n/* endmodule", "m.sv:2:1: Unclosed\n"),
+    ("module m; initial #5; endmodule", "m.sv:1:19: Syntax\n"),
+    ("module int; endmodule", "m.sv:1:8: Syntax\n"),
+    ("module m;\n", "m.sv:2:1: Syntax\n"),
+    ("module m;", "m.sv:1:10: Syntax\n"),
+    ("module m; endmodule endmodule", "m.sv:1:21: Syntax\n"),
+    (
+        "module m; initial if (a) ; else if (b) ; else ; else ; endmodule",
+        "m.sv:1:49: Syntax\n",
+    ),
+    ("module // a\r\n\tm ( ; endmodule", "m.sv:2:6: Syntax\n"),
+];
+
+/// The same of C (ISO C, 6.4): a `$`, another escape, a define of a keyword, a number with an 8
+/// behind a 0, a comment without an end; a parenthesis that isn't closed, a keyword for a name,
+/// `long` alone, and the end of the file.
+const REFUSED_C: [(&str, &str); 11] = [
+    ("int $x;", "m.c:1:5: BadByte\n"),
+    ("char c = '\\q';", "m.c:1:11: BadByte\n"),
+    ("int x;\n#define int 1\n", "m.c:2:1: BadByte\n"),
+    ("int x = 08;", "m.c:1:9: BadNumber\n"),
+    ("int x; /* y", "m.c:1:8: Unclosed\n"),
+    ("int f(void) { return (1; }", "m.c:1:24: Syntax\n"),
+    (
+        "int add(int while, int b) { return b + b; }",
+        "m.c:1:13: Syntax\n",
+    ),
+    (
+        "long add(int a, int b) { return a + b; }",
+        "m.c:1:6: Syntax\n",
+    ),
+    (
+        "int add(int a, int b) { return a + b; } int",
+        "m.c:1:44: Syntax\n",
+    ),
+    ("int f(void) {\r\n", "m.c:2:1: Syntax\n"),
+    ("int x = ( char ) ;", "m.c:1:18: Syntax\n"),
+];
+
+#[test]
+fn a_file_is_refused_at_its_first_fault(rt: HostRuntime) -> Result<(), Fail> {
+    for (sv, line) in REFUSED_SV {
+        check(&rt, rt.alloc(), ADD, Some(sv), None, (1, "", line))?;
+    }
+    for (c, line) in REFUSED_C {
+        check(&rt, rt.alloc(), ADD, Some(SV), Some(c), (1, "", line))?;
+    }
+    Ok(())
+}
+
+// a text with so many parentheses around a number
+fn nested(alloc: Global, before: &str, depth: usize, after: &str) -> Result<String, Fail> {
+    let mut text = String::from_str(alloc, before)?;
+    for _ in 0..depth {
+        text.push_str("(")?;
+    }
+    text.push_str("1")?;
+    for _ in 0..depth {
+        text.push_str(")")?;
+    }
+    text.push_str(after)?;
+    Ok(text)
+}
+
+/// How many parentheses, and what comes of them behind the column 22 of the SystemVerilog file and
+/// 8 of the C file: the one that opens level 25 is refused.
+const NESTED: [(usize, &str, &str); 3] = [
+    (24, "m.sv:1:1: NotBuilt\n", "m.sv:1:1: NotBuilt\n"),
+    (25, "m.sv:1:47: TooDeep\n", "m.c:1:33: TooDeep\n"),
+    (26, "m.sv:1:47: TooDeep\n", "m.c:1:33: TooDeep\n"),
+];
+
+#[test]
+fn level_25_is_too_deep(rt: HostRuntime) -> Result<(), Fail> {
+    for (depth, of_sv, of_c) in NESTED {
+        let sv = nested(rt.alloc(), "module m; initial a = ", depth, "; endmodule")?;
+        check(
+            &rt,
+            rt.alloc(),
+            ADD,
+            Some(sv.as_str()),
+            Some(C),
+            (1, "", of_sv),
+        )?;
+        let c = nested(rt.alloc(), "int x = ", depth, ";")?;
+        check(
+            &rt,
+            rt.alloc(),
+            ADD,
+            Some(SV),
+            Some(c.as_str()),
+            (1, "", of_c),
+        )?;
+    }
+    Ok(())
+}
+
+/// The words, the texts that are there, the fetches that fail, and the answer: the first file that
+/// can't be read is named, and a file that is refused hides the ones after it.
+const FAULTS: [(&[&str], Option<&str>, Option<&str>, &[u64], Came); 9] = [
+    (
+        &["m.sv", "m.c"],
+        None,
+        None,
+        &[],
+        (7, "", "dpirun: cannot read m.sv\n"),
+    ),
+    (
+        &["m.sv", "m.c"],
+        None,
+        Some(C),
+        &[],
+        (7, "", "dpirun: cannot read m.sv\n"),
+    ),
+    (
+        &["m.sv", "m.c"],
+        Some(SV),
+        None,
+        &[],
+        (7, "", "dpirun: cannot read m.c\n"),
+    ),
+    (
+        &["m.sv", "m.c"],
+        Some("module"),
+        None,
+        &[],
+        (1, "", "m.sv:1:7: Syntax\n"),
+    ),
+    (
+        &["m.c", "n.sv", "m.sv"],
+        Some("module"),
+        Some(C),
+        &[],
+        (7, "", "dpirun: cannot read n.sv\n"),
+    ),
+    (
+        &["m.sv", "m.c"],
         Some(SV),
         Some(C),
         &[1],
         (7, "", "dpirun: cannot read m.sv\n"),
     ),
     (
+        &["m.sv", "m.c"],
         Some(SV),
         Some(C),
         &[2],
         (7, "", "dpirun: cannot read m.c\n"),
     ),
+    (
+        &["m.sv", "m.c", "m.sv"],
+        Some(SV),
+        Some(C),
+        &[3],
+        (7, "", "dpirun: cannot read m.sv\n"),
+    ),
+    (
+        &["m.sv", "m.c", "m.sv"],
+        Some(SV),
+        Some("int"),
+        &[3],
+        (1, "", "m.c:1:4: Syntax\n"),
+    ),
 ];
 
 #[test]
 fn a_file_that_is_not_read_is_named(rt: HostRuntime) -> Result<(), Fail> {
-    for (sv, c, fetches, came) in FAULTS {
-        check(&rt, rt.alloc(), Setting { fetches, ..ADD }, sv, c, came)?;
+    for (words, sv, c, fetches, came) in FAULTS {
+        let setting = Setting {
+            words,
+            fetches,
+            ..ADD
+        };
+        check(&rt, rt.alloc(), setting, sv, c, came)?;
     }
     Ok(())
 }
@@ -280,15 +498,9 @@ const WRITES: [(&[&str], &[u64], &[u64], usize, Came); 8] = [
     ),
     (&["m.sv", "m.c"], &[1], &[1], 0, (8, "", "")),
     (&["m.sv", "m.c"], &[1], &[8], 1, (8, "", "dpirun:")),
-    (&["m.sv"], &[], &[], 1, (2, "", "dpirun: bad words\n")),
-    (&["m.sv"], &[], &[1], 0, (8, "", "dpirun: cannot write\n")),
-    (
-        &["m.sv"],
-        &[],
-        &[4],
-        1,
-        (8, "", "dpidpirun: cannot write\n"),
-    ),
+    (&["m"], &[], &[], 1, (2, "", "dpirun: bad words\n")),
+    (&["m"], &[], &[1], 0, (8, "", "dpirun: cannot write\n")),
+    (&["m"], &[], &[4], 1, (8, "", "dpidpirun: cannot write\n")),
 ];
 
 #[test]

@@ -1,32 +1,43 @@
-use Rattle.std.proofs.Common.{◌≡◌, Option, Ok, Err, ap, subst}
-use Rattle.dpi_ports.specs.Told.{Contents}
-use Rattle.dpirun.specs.Answer.{read_as, sum_in_text}
-use Rattle.dpirun.specs.Ends.{Reads}
-use Rattle.dpirun.specs.Pair.{call_shown}
-use Rattle.dpirun.specs.Refusals.{code_of}
-use Rattle.dpirun.proofs.Files.{if_ok, sv_ends, c_ends, sum_ends}
+use Rattle.std.proofs.Common.{◌≡◌, ◌∙◌, ◌≤◌, Some, Err, length, map, slice_get, ap, sym, refl, add-one, arith}
+use Rattle.std.proofs.lemmas.List.{length-map}
+use Rattle.std.specs.String.{string_bytes}
+use Rattle.dpirun.specs.Answer.{not_built}
+use Rattle.dpirun.proofs.Files.{if_ok, fault_ends, files_end, named_at, no_texts, texts_more, all_texts, reached_at, first_named}
 use Rattle.dpirun.proofs.program.of_files.Goals as goal
+
+pub loop-word-init : goal.loop-word-init
+loop-word-init g c = record { texts = no_texts _; kept = refl; later = omega arith }
+
+pub returns-in-Err-clause-kept : goal.returns-in-Err-clause-kept
+returns-in-Err-clause-kept g c = c.in-Err.ensures.kept ∙ c.loop-word.invariant.kept
 
 pub returns-in-Err-clause-ends : goal.returns-in-Err-clause-ends
 returns-in-Err-clause-ends g c =
+    let named : slice_get (map string_bytes c.args.words.now.items) c.loop-word.word-index ≡ Some c.as_str-name.result.now =
+    named_at string_bytes _ _ _ c.word-item.result _ c.deref-word-items.ensures.value c.loop-word-test.true c.word-item.is c.as_str-name.ensures.value in
     if_ok c.of_fault.result _ _
-    (λ o comes. sv_ends _ _ _ c.in-Err.fault _ _ _ _ c.in-Err.ensures.refused
-    (λ e. c.in-Err.ensures.unread (ap Err e)) (λ e. c.in-Err.ensures.named (ap Err e)) comes) c.of_fault.ensures
+    (λ o comes. fault_ends _ _ _ _ c.in-Err.fault _ _ _ _ _ c.loop-word.invariant.kept
+    (reached_at _ _ _ _ c.requires.command named c.loop-word.invariant.texts) c.in-Err.ensures.refused c.loop-word.invariant.later
+    (λ e. c.in-Err.ensures.unread (ap Err e)) (λ e. c.in-Err.ensures.named (ap Err e)) comes) c.of_fault.ensures.comes
 
-pub returns-in-Ok-read_sum-clause-ends : goal.returns-in-Ok-read_sum-clause-ends
-returns-in-Ok-read_sum-clause-ends g c =
-    if_ok c.of_sum.result _ _
-    (λ o is. sum_ends _ _ _ _ c.in-Ok-read_sum.sum _ _ _ _ c.requires c.in-Ok.ensures.ok
-    (let P : Option Contents → Type 0 =
-    λ told. Reads told c.args.c.now (λ text. read_as (sum_in_text (call_shown c.in-Ok.call)) text ≡ Ok c.in-Ok-read_sum.sum)
-    in subst P c.in-Ok.ensures.kept c.in-Ok-read_sum.ensures.ok) is) c.of_sum.ensures
+pub loop-word-preserved : goal.loop-word-preserved
+loop-word-preserved g c =
+    let named : slice_get (map string_bytes c.args.words.now.items) c.loop-word.word-index ≡ Some c.as_str-name.result.now =
+    named_at string_bytes _ _ _ c.word-item.result _ c.deref-word-items.ensures.value c.loop-word-test.true c.word-item.is c.as_str-name.ensures.value in
+    record {
+      texts = rw add-one (texts_more _ _ _ _ _ _ c.loop-word.invariant.kept named c.loop-word.invariant.texts c.in-Ok.ensures.ok);
+      kept = c.in-Ok.ensures.kept ∙ c.loop-word.invariant.kept;
+      later = omega (arith, c.loop-word.invariant.later, c.in-Ok.ensures.later);
+    }
 
 pub returns-clause-ends : goal.returns-clause-ends
 returns-clause-ends g c =
-    if_ok c.of_fault-in-Err-read_sum.result _ _
-    (λ o comes. c_ends _ _ _ _ c.in-Err-read_sum.fault _ _ _ _ _ c.requires c.in-Ok.ensures.ok
-    (λ refused. let P : Option Contents → Type 0 =
-    λ told. Reads told c.args.c.now (λ text. read_as (sum_in_text (call_shown c.in-Ok.call)) text ≡ Err (code_of c.in-Err-read_sum.fault))
-    in subst P c.in-Ok.ensures.kept (c.in-Err-read_sum.ensures.refused refused)) c.in-Ok.ensures.later
-    (λ e. c.in-Err-read_sum.ensures.unread (ap Err e)) (λ e. c.in-Err-read_sum.ensures.named (ap Err e)) comes)
-    c.of_fault-in-Err-read_sum.ensures
+    let items : length c.deref-word-items.result.now ≡ length c.args.words.now.items = ap length c.deref-word-items.ensures.value in
+    let past : length (map string_bytes c.args.words.now.items) ≤ c.loop-word.word-index = simp length-map (omega (arith, items, c.loop-word-test.false)) in
+    let texts = all_texts _ _ _ past c.loop-word.invariant.texts in
+    if_ok c.not_built.result _ _
+    (λ o is. files_end _ _ texts.texts _ _ _ _ c.requires.command c.requires.other texts.good
+    (is ∙ ap not_built (sym (first_named string_bytes c.args.words.now.items c.index.result.now _ c.requires.command c.index.ensures c.as_str.ensures.value)))) c.not_built.ensures
+
+pub returns-clause-kept : goal.returns-clause-kept
+returns-clause-kept g c = c.loop-word.invariant.kept

@@ -1,14 +1,25 @@
-use Rattle.std.proofs.Common.{inl, map, sym}
+use Rattle.std.proofs.Common.{◌≡◌, ◌∙◌, ℕ, true, List, Some, map, sym, subst}
 use Rattle.std.specs.String.{string_bytes}
-use Rattle.dpirun.specs.Shown.{shown}
-use Rattle.dpirun.proofs.Files.{if_ok}
-use Rattle.dpirun.proofs.Commands.{words_end, no_command}
+use Rattle.dpirun.specs.Command.{FileNames, is_command, pair_of}
+use Rattle.dpirun.proofs.Endings.{pair_shows}
+use Rattle.dpirun.proofs.Files.{if_ok, pair_words_end}
 use Rattle.dpirun.proofs.program.of_words.Goals as goal
+
+pub of_pair-requires-clause-command : goal.of_pair-requires-clause-command
+of_pair-requires-clause-command g c =
+    let words : List (List ℕ) = map string_bytes c.args.words.now.items in
+    let pair : FileNames = record { sv = c.in-Some.pair.sv.now; c = c.in-Some.pair.c.now } in
+    subst (λ (ws : List (List ℕ)). is_command ws ≡ true) (pair_shows words pair (sym c.in-Some.ensures)).words_are
+    (sym c.is_command.ensures ∙ c.if-not-is_command.false)
+
+pub of_pair-requires-clause-pair : goal.of_pair-requires-clause-pair
+of_pair-requires-clause-pair g c =
+    let words : List (List ℕ) = map string_bytes c.args.words.now.items in
+    let pair : FileNames = record { sv = c.in-Some.pair.sv.now; c = c.in-Some.pair.c.now } in
+    subst (λ (ws : List (List ℕ)). pair_of ws ≡ Some pair) (pair_shows words pair (sym c.in-Some.ensures)).words_are (sym c.in-Some.ensures)
 
 pub returns-in-Some-clause-ends : goal.returns-in-Some-clause-ends
 returns-in-Some-clause-ends g c =
-    if_ok c.of_files.result _ _ (λ o ends. words_end (map string_bytes c.args.words.now.items) _ _ _ _ _ _ (sym c.in-Some.ensures.files) ends) c.of_files.ensures.ends
-
-pub returns-in-None-clause-ends : goal.returns-in-None-clause-ends
-returns-in-None-clause-ends g c =
-    if_ok c.bad_words.result _ _ (λ o is. inl (no_command (g.F.Files.told c.args.files.now) (map string_bytes c.args.words.now.items) (shown o) (sym c.in-None.ensures.files) is)) c.bad_words.ensures
+    let words : List (List ℕ) = map string_bytes c.args.words.now.items in
+    let pair : FileNames = record { sv = c.in-Some.pair.sv.now; c = c.in-Some.pair.c.now } in
+    if_ok c.of_pair.result _ _ (λ o ends. pair_words_end _ words pair _ _ _ _ (pair_shows words pair (sym c.in-Some.ensures)) ends) c.of_pair.ensures.ends

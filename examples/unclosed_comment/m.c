@@ -1,0 +1,2 @@
+/* adds two numbers
+int add(int a, int b) { return a + b; }
