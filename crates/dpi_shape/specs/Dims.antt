@@ -1,5 +1,5 @@
 -- Unpacked dimensions: all index lists, and what a shape is.
-use Rattle.std.specs.Prelude.{ℕ, zero, suc, ◌*◌, ◌≤◌, ℤ, pos, ◌+ℤ◌, List, [], ◌∷◌, map, length}
+use Rattle.std.specs.Prelude.{ℕ, Option, Some, None, zero, suc, ◌*◌, ◌≤◌, ℤ, pos, ◌+ℤ◌, List, [], ◌∷◌, map, length}
 use Rattle.std.specs.List.{flat_map}
 use Rattle.dpi_shape.specs.declared.range.Range.{Range}
 use Rattle.dpi_shape.specs.declared.leaf.Leaf.{Leaf}
@@ -33,6 +33,14 @@ ranges_of Zero = []
 ranges_of (One rs) = rs
 ranges_of (Two rs) = rs
 ranges_of (Three rs) = rs
+
+-- the form that keeps these ranges, if they are at most three
+abbrev pub dims_by : List Range → Option Dims
+dims_by [] = Some Zero
+dims_by (a ∷ []) = Some (One (a ∷ []))
+dims_by (a ∷ b ∷ []) = Some (Two (a ∷ b ∷ []))
+dims_by (a ∷ b ∷ c ∷ []) = Some (Three (a ∷ b ∷ c ∷ []))
+dims_by (a ∷ b ∷ c ∷ d ∷ more) = None
 
 -- within the limits on ranges, bits and cells
 pub record IsShape (leaf : Leaf) (rs : List Range) : Type 0 where

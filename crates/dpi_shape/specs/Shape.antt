@@ -6,6 +6,7 @@ use Rattle.std.specs.List.{starts_with, AllZip}
 use Rattle.std.specs.Ordering.{int_eq}
 use Rattle.dpi_shape.specs.declared.range.Range.{Range}
 use Rattle.dpi_shape.specs.declared.leaf.Leaf.{Leaf}
+use Rattle.dpi_shape.specs.declared.dims.Dims.{Dims}
 use Rattle.dpi_shape.specs.declared.shape.Shape.{Shape}
 use Rattle.dpi_shape.specs.Range.{IsIndex, IsAlike}
 use Rattle.dpi_shape.specs.Leaf.{width, is_four_state, element_cells, mask}
@@ -18,6 +19,10 @@ leaf_of s = s.leaf
 -- the ranges of the unpacked dimensions, the first one first
 abbrev pub dims_of : Shape → List Range
 dims_of s = ranges_of s.dims
+
+-- the form in which they are kept
+abbrev pub form_of : Shape → Dims
+form_of s = s.dims
 
 -- how many cells all elements have together
 abbrev pub cells_of : Shape → ℕ

@@ -3,7 +3,7 @@ ghost use Rattle.std.specs.Prelude.{◌≡◌, ℕ, ◌≤◌, ◌↔◌, ◌*�
 ghost use Rattle.std.specs.Prelude.{IsTrue};
 ghost use Rattle.std.specs.List.{AllZip};
 ghost use Rattle.dpi_shape.specs.Range.{IsAlike};
-ghost use Rattle.dpi_shape.specs.Dims.{ranges_of, elements};
+ghost use Rattle.dpi_shape.specs.Dims.{ranges_of, dims_by, elements};
 
 use super::range::Range;
 
@@ -25,6 +25,7 @@ impl Dims {
     pub fn from_slice(ranges: &[Range]) -> Option<Dims>
         ensures room { IsSome result ↔ (length ranges.now ≤ 3) }
         ensures value { IfSome result (λ d. ranges_of d ≡ ranges.now) }
+        ensures form { result ≡ dims_by ranges.now }
     {
         match ranges {
             [] => Some(Dims::Zero),

@@ -24,11 +24,12 @@ pub struct Shape {
 }
 
 impl Shape {
-    ghost use Rattle.std.specs.Prelude.{◌<◌, ◌-◌, ◌*◌, ◌↔◌, None, IsTrue};
+    ghost use Rattle.std.specs.Prelude.{◌<◌, ◌-◌, ◌*◌, ◌↔◌, None, Some, IsTrue};
     ghost use Rattle.std.specs.Prelude.{IsSome, IfSome, length, drop, slice_get, ◌==◌};
     ghost use Rattle.std.specs.Prelude.{if◌then◌else◌};
+    ghost use Rattle.dpi_shape.specs.Dims.{dims_by};
     ghost use Rattle.dpi_shape.specs.Leaf.{width, element_cells, cell_bytes, mask};
-    ghost use Rattle.dpi_shape.specs.Shape.{leaf_of, dims_of, cells_of, first_cell, HasRoom};
+    ghost use Rattle.dpi_shape.specs.Shape.{leaf_of, dims_of, form_of, cells_of, first_cell, HasRoom};
     ghost use Rattle.dpi_shape.specs.Shape.{AreIndices, NamesAlone, IsPartAfter, IsSameLayout};
     ghost use Rattle.dpi_shape.specs.Shape.{mask_of};
 
@@ -38,6 +39,7 @@ impl Shape {
         ensures limits { IsSome result ↔ IsShape leaf dims.now }
         ensures leaf_kept { IfSome result (λ s. leaf_of s ≡ leaf) }
         ensures dims_kept { IfSome result (λ s. dims_of s ≡ dims.now) }
+        ensures form { IfSome result (λ s. dims_by dims.now ≡ Some (form_of s)) }
     {
         let kept = Dims::from_slice(dims)?;
         if leaf.width() > MOST_WIDTH {
