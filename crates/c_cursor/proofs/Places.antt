@@ -1,16 +1,18 @@
 -- The token of a number, and the words from there on.
-use Rattle.std.proofs.Common.{◌≡◌, ℕ, zero, suc, ◌+◌, ◌≤◌, ◌<◌, List, [], ◌∷◌, drop, length, Option, Some, None, refl, sym, ap, ◌∙◌, arith}
+use Rattle.std.proofs.Common.{◌≡◌, ℕ, zero, suc, ◌+◌, ◌≤◌, ◌<◌, Bool, List, [], ◌∷◌, drop, length, Option, Some, None, if◌then◌else◌, refl, sym, ap, ◌∙◌, arith}
 use Rattle.std.specs.List.{slice_get}
 use Rattle.std.specs.Prelude.{IsSomeAnd}
 use Rattle.std.proofs.lemmas.Option.{slice_get_past}
 use Rattle.std.proofs.lemmas.List.{length-map}
+use Rattle.dpi_grammar.specs.Faults.{is_late, opener}
 use Rattle.dpi_grammar.specs.Parser.{State, first, step, step_from}
 use Rattle.dpi_lex.specs.Lexed.{Lexed}
 use Rattle.dpi_lex.specs.Words.{Word, words_of}
 use Rattle.dpi_lex.specs.declared.token.Kind.{Kind}
-use Rattle.c_tree.specs.Classes.{class_by, class_at}
+use Rattle.c_tree.specs.declared.class.Class.TheVariants as classes
+use Rattle.c_tree.specs.Classes.{class_by, class_at, is_class, is}
 use Rattle.c_cursor.specs.Places.{state_at}
-use Rattle.c_cursor.specs.Reading.{bytes_at}
+use Rattle.c_cursor.specs.Reading.{late, bytes_at}
 
 first_drop : {X : Type 0} (n : ℕ) (ws : List X) → first (drop n ws) ≡ slice_get ws n
 first_drop zero [] = refl
@@ -50,3 +52,16 @@ pub step_state : (l : Lexed) (n : ℕ) → n < length l.tokens → state_at l (n
 step_state l n below =
     let more : n + 1 ≡ suc n = omega arith in
     ap (λ m. let s : State Word = record { place = n + 1; rest = drop m (words_of l) } in s) more ∙ sym (step_drop n n (words_of l) (simp length-map below))
+
+late_by : (o : Option Word) → is_late late o ≡ is classes.OpenParen o
+unfolding is_class
+late_by None = refl
+late_by (Some w) = refl
+
+-- whether a token is known by the next one alone, from its class
+pub late_there : (l : Lexed) (n : ℕ) → is_late late (slice_get (words_of l) n) ≡ is_class classes.OpenParen (class_at (first (state_at l n).rest))
+late_there l n = late_by (slice_get (words_of l) n) ∙ ap (λ o. is classes.OpenParen o) (sym (first_drop n (words_of l)))
+
+-- behind a token
+pub opener_behind : {T : Type 0} (late : T → Bool) (ts : List T) (n m : ℕ) → n ≡ m + 1 → opener late ts n ≡ (if is_late late (slice_get ts m) then m else n)
+opener_behind late ts n m e = let more : n ≡ suc m = omega (arith, e) in ap (λ k. opener late ts k) more ∙ ap (λ k. if is_late late (slice_get ts m) then m else k) (sym more)

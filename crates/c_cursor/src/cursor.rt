@@ -36,7 +36,7 @@ impl<'a> Model for Cursor<'a> {
 
 /// The class of the token of that number, or None at the end.
 #[tactic(auto, using(crate::proofs::Places::class_there, crate::proofs::Places::no_class))]
-fn class_of_token(tokens: &Tokens, place: u32) -> Option<Class>
+pub(crate) fn class_of_token(tokens: &Tokens, place: u32) -> Option<Class>
     ensures { result ≡ class_at (first (state_at tokens.now place).rest) }
 {
     if place < tokens.len() {
@@ -109,7 +109,7 @@ impl<'a> Cursor<'a> {
         Stop::Syntax(self.place)
     }
 
-    /// That the next token opens a level too many.
+    /// That only trees of too many levels go on with the next token.
     pub fn too_deep(&self) -> Stop
         ensures { result ≡ Stop.TooDeep self.now.place }
     {

@@ -1,6 +1,6 @@
 //! A cursor over the tokens of small texts, and parts of one token.
 
-use crate::{Cursor, character, define, name, number, text};
+use crate::{Cursor, character, define, name, number, opener, text};
 use c_tree::Class;
 use dpi_grammar::Stop;
 use dpi_lex::c_tokens;
@@ -91,5 +91,14 @@ fn a_token_of_another_class_is_refused_and_stays(rt: HostRuntime) -> Result<(), 
         Some(Stop::Syntax(0))
     );
     assert!(rt; cursor.sees(Class::Int));
+    Ok(())
+}
+
+#[test]
+fn a_parenthesis_opens_what_shows_behind_it(rt: HostRuntime) -> Result<(), Fail> {
+    let tokens = c_tokens(rt.alloc(), b"f ( ( a [ 1")?;
+    for (shows, want) in [(0, 0), (1, 1), (2, 1), (3, 2), (4, 4), (5, 5), (6, 6)] {
+        assert_eq!(rt; opener(&tokens, shows), want, "{shows}");
+    }
     Ok(())
 }

@@ -16,7 +16,6 @@ use Rattle.c_tree.specs.Classes.{class_at, is, word_of}
 use Rattle.c_tree.specs.Operators.{binary_of, assign_of}
 use Rattle.c_tree.specs.Leaves.{comma}
 use Rattle.c_tree.proofs.ClassLemmas.{knows}
-use Rattle.c_cursor.specs.Reading.{late}
 use Rattle.c_expr.specs.Front.{begins_expr, begins_term, begins_assignment}
 use Rattle.c_expr.specs.Reading as spec
 use Rattle.c_expr.specs.Reading.{Readers, Inner}
@@ -34,7 +33,7 @@ use Rattle.c_expr.proofs.OperandRules.{operand_rule}
 abbrev flat_choice : Kind Word (ℕ × (CExpr × Cond))
 flat_choice = pair (place never) (λ _. behind (word_of classes.Question) (pair an_expr (λ _. behind (word_of classes.Colon) a_cond)))
 
-flat_choice_rule : {live : Type 0} {d : ℕ} {e : Readers} → Good live d e → Rule live late never flat_choice (λ p. choice p.0 p.1.0 p.1.1) d (spec.choice_by e)
+flat_choice_rule : {live : Type 0} {d : ℕ} {e : Readers} → Good live d e → Rule live never flat_choice (λ p. choice p.0 p.1.0 p.1.1) d (spec.choice_by e)
 unfolding spec.choice_by
 flat_choice_rule {e = e} good =
     numbered (λ k p. choice k p.0 p.1)
@@ -44,7 +43,7 @@ flat_choice_rule {e = e} good =
     (λ x. token_then (is classes.Colon) (word_of classes.Colon) (knows classes.Colon refl) (expr_stops classes.Colon refl refl x) (mapped (choice k x) good.cond))))
 
 -- it opens a level
-choice_open : Opens Good late (is classes.Question) (word_of classes.Question) a_choice spec.choice_by
+choice_open : Opens Good (is classes.Question) (word_of classes.Question) a_choice spec.choice_by
 choice_open = record {
   rule = λ live m e good. told_as a_choice (λ (p : ℕ × (CExpr × Cond)). choice p.0 p.1.0 p.1.1) (λ x. x) (λ p. choice_tells p.0 p.1.0 p.1.1) (λ p t. choice_grabs_are p.0 p.1.0 p.1.1 t)
       (λ x. (((out-Choice x).token, ((out-Choice x).yes, (out-Choice x).no)), roll-out-Choice x)) (deeper_rule (flat_choice_rule good));
@@ -65,7 +64,7 @@ assignments_repeat = record { starts = assignment_starts; next = assignments_apa
 module _ (d : ℕ) (inner : Inner) (h : Inside Good d inner) where
   -- ---- chains
 
-  term_rule : Rule (Unit {0}) late never a_term (λ x. x) d (spec.term inner)
+  term_rule : Rule (Unit {0}) never a_term (λ x. x) d (spec.term inner)
   unfolding spec.term
   term_rule =
       told_as a_term term_of (λ x. x) term_says (λ x t. term_grabs_are x.0 x.1.0 x.1.1 t) term_all
@@ -74,7 +73,7 @@ module _ (d : ℕ) (inner : Inner) (h : Inside Good d inner) where
       (plainly (λ t. binary_of (class_at t)) binary_word binary_reader (λ o. refl) binary.Star)
       (λ o. mapped (term k o) (operand_rule d inner h))))
 
-  chain_rule : Rule (Unit {0}) late never a_chain (λ x. x) d (spec.chain inner)
+  chain_rule : Rule (Unit {0}) never a_chain (λ x. x) d (spec.chain inner)
   unfolding spec.chain
   chain_rule =
       told_as a_chain chain_of (λ x. x) chain_says (λ x t. chain_grabs_are x.0 x.1.0 x.1.1 t) chain_all
@@ -84,17 +83,17 @@ module _ (d : ℕ) (inner : Inner) (h : Inside Good d inner) where
 
   -- ---- conditionals
 
-  cond_in_rule : Rule (Unit {0}) late never a_cond (λ x. x) d (spec.cond_in inner)
+  cond_in_rule : Rule (Unit {0}) never a_cond (λ x. x) d (spec.cond_in inner)
   unfolding spec.cond_in
   cond_in_rule =
       told_as a_cond cond_of (λ x. x) cond_says (λ x t. cond_grabs_are x.0 x.1.0 x.1.1 t) cond_all
       (numbered (λ k p. cond k p.0 p.1) (λ k s. and_then (spec.chain inner s) (λ c s. and_then (spec.choice_in inner s) (λ o s. Ok (cond k c o, s))))
       (λ k. seq (λ c. c) (λ c o. cond k c o) (λ c s. and_then (spec.choice_in inner s) (λ o s. Ok (cond k c o, s))) chain_rule
-      (λ c. mapped (cond k c) (perhaps_deeper Good late (is classes.Question) (a_chain.grabs c) (word_of classes.Question) a_choice spec.choice_by choice_open (chain_question c) d inner h))))
+      (λ c. mapped (cond k c) (perhaps_deeper Good (is classes.Question) (a_chain.grabs c) (word_of classes.Question) a_choice spec.choice_by choice_open (chain_question c) d inner h))))
 
   -- ---- expressions
 
-  assignment_rule : Rule (Unit {0}) late never an_assignment (λ x. x) d (spec.assignment inner)
+  assignment_rule : Rule (Unit {0}) never an_assignment (λ x. x) d (spec.assignment inner)
   unfolding spec.assignment
   assignment_rule =
       told_as an_assignment assignment_of (λ x. x) assignment_says (λ x t. assignment_grabs_are x.0 x.1.0 x.1.1 t) assignment_all
@@ -103,7 +102,7 @@ module _ (d : ℕ) (inner : Inner) (h : Inside Good d inner) where
       (plainly (λ t. assign_of (class_at t)) assign_word assign_reader (λ o. refl) assign.Plain)
       (λ o. mapped (assignment k o) cond_in_rule)))
 
-  expr_in_rule : Rule (Unit {0}) late never an_expr (λ x. x) d (spec.expr_in inner)
+  expr_in_rule : Rule (Unit {0}) never an_expr (λ x. x) d (spec.expr_in inner)
   unfolding spec.expr_in
   expr_in_rule =
       told_as an_expr expr_of (λ x. x) expr_says (λ x t. expr_grabs_are x.0 x.1.0 x.1.1 t) expr_all
@@ -121,13 +120,13 @@ inside_good zero = refl
 inside_good (suc d) = (d, omega arith, level_good d (spec.inside d) (inside_good d))
 
 -- a rule with a parser is one whether it is live or not
-expr_lively : {live : Type 0} (d : ℕ) → Rule live late never an_expr (λ x. x) d (spec.expr d)
+expr_lively : {live : Type 0} (d : ℕ) → Rule live never an_expr (λ x. x) d (spec.expr d)
 expr_lively d =
     let k = (level_good d (spec.inside d) (inside_good d)).expr in
     record { exact = λ l s b. k.exact tt s b; closes = k.closes; keeps = k.keeps }
 
 -- expr
-pub expr_rule : {live : Type 0} {before : Option Word → Bool} (d : ℕ) → Apart begins_expr before → Rule live late before an_expr (λ e. e) d (spec.expr d)
+pub expr_rule : {live : Type 0} {before : Option Word → Bool} (d : ℕ) → Apart begins_expr before → Rule live before an_expr (λ e. e) d (spec.expr d)
 expr_rule {before = before} d apart = put_apart begins_expr before expr_starts apart (expr_lively d)
 
 -- at least one, with commas between them
@@ -135,5 +134,5 @@ abbrev pub some_exprs : Kind Word (List CExpr)
 some_exprs = commas (is classes.Comma) comma an_expr
 
 -- expr,+
-pub exprs_rule : {live : Type 0} {before : Option Word → Bool} (d : ℕ) → Apart begins_expr before → Rule live late before some_exprs (λ es. es) d (spec.exprs d)
+pub exprs_rule : {live : Type 0} {before : Option Word → Bool} (d : ℕ) → Apart begins_expr before → Rule live before some_exprs (λ es. es) d (spec.exprs d)
 exprs_rule {before = before} d apart = separate (is classes.Comma) comma (knows classes.Comma refl) (no_class classes.Comma) (expr_stops classes.Comma refl refl) (expr_lively d) (expr_rule d apart)

@@ -23,7 +23,6 @@ use Rattle.c_tree.specs.Classes.{is_class, is, word_of}
 use Rattle.c_tree.specs.Leaves.{Tells, quoted}
 use Rattle.c_tree.specs.Expressions.{prefix_told, expr_told}
 use Rattle.c_tree.proofs.ClassLemmas.{knows}
-use Rattle.c_cursor.specs.Reading.{late}
 use Rattle.c_types.specs.Reading.{begins_type}
 use Rattle.c_expr.specs.declared.lead.Lead.{Lead}
 use Rattle.c_expr.specs.declared.lead.Lead.TheVariants as leads
@@ -40,8 +39,8 @@ use Rattle.c_expr.proofs.Starts.{expr_starts}
 
 -- what reads expressions is exact
 pub record Good (live : Type 0) (d : ℕ) (e : Readers) : Type 0 where
-  pub expr : Rule live late never an_expr (λ x. x) d e.expr
-  pub cond : Rule live late never a_cond (λ x. x) d e.cond
+  pub expr : Rule live never an_expr (λ x. x) d e.expr
+  pub cond : Rule live never a_cond (λ x. x) d e.cond
 
 -- without a parser
 pub no_good : (m : ℕ) (e : Readers) → Good ⊥ m e
@@ -55,7 +54,7 @@ a_group = pair an_expr (λ _. one (word_of classes.CloseParen))
 abbrev group_value : ℕ → CExpr × Unit {0} → Lead
 group_value k y = leads.Whole (forms.Group k y.0)
 
-group_rule : (m k : ℕ) (e : Readers) → Good (Unit {0}) m e → Rule (Unit {0}) late never a_group (group_value k) m (spec.group k e)
+group_rule : (m k : ℕ) (e : Readers) → Good (Unit {0}) m e → Rule (Unit {0}) never a_group (group_value k) m (spec.group k e)
 unfolding spec.group
 group_rule m k e good =
     seq (λ x. x) (λ x _. leads.Whole (forms.Group k x)) (λ x s. and_then (expect (is classes.CloseParen) s) (λ _ s. Ok (leads.Whole (forms.Group k x), s))) good.expr
@@ -78,12 +77,11 @@ abbrev bracket_made : ℕ → (CType × (List Star × Unit {0})) ⊎ (CExpr × U
 bracket_made k (inl x) = cast_value k x
 bracket_made k (inr y) = group_value k y
 
-bracket_open : Opening Good late (is classes.OpenParen) begins_type begins_expr (word_of classes.OpenParen) a_cast a_group bracket_made spec.cast spec.group
+bracket_open : Opening Good (is classes.OpenParen) begins_type begins_expr (word_of classes.OpenParen) a_cast a_group bracket_made spec.cast spec.group
 bracket_open = record {
   flat_rule = λ d k. cast_rule k;
   deep_rule = λ m k e good. group_rule m k e good;
   knows = knows classes.OpenParen refl;
-  is_late = (knows classes.OpenParen refl).yes;
   flat_starts = cast_starts;
   deep_starts = group_starts;
   apart = type_apart;
@@ -91,13 +89,13 @@ bracket_open = record {
 }
 
 abbrev a_bracket : Kind Word (ℕ × ((CType × (List Star × Unit {0})) ⊎ (CExpr × Unit {0})))
-a_bracket = opening Good late (is classes.OpenParen) begins_type begins_expr (word_of classes.OpenParen) a_cast a_group bracket_made spec.cast spec.group bracket_open
+a_bracket = opening Good (is classes.OpenParen) begins_type begins_expr (word_of classes.OpenParen) a_cast a_group bracket_made spec.cast spec.group bracket_open
 
 bracket_starts : Starts (is classes.OpenParen) a_bracket
 bracket_starts n x r h = (knows classes.OpenParen refl).yes
 
-bracket_rule : (d : ℕ) (inner : Inner) → Inside Good d inner → Rule (Unit {0}) late never a_bracket (λ p. bracket_made p.0 p.1) d (spec.bracket inner)
-bracket_rule d inner h = opened_rule Good late (is classes.OpenParen) begins_type begins_expr (word_of classes.OpenParen) a_cast a_group bracket_made spec.cast spec.group bracket_open d inner h
+bracket_rule : (d : ℕ) (inner : Inner) → Inside Good d inner → Rule (Unit {0}) never a_bracket (λ p. bracket_made p.0 p.1) d (spec.bracket inner)
+bracket_rule d inner h = opened_rule Good (is classes.OpenParen) begins_type begins_expr (word_of classes.OpenParen) a_cast a_group bracket_made spec.cast spec.group bracket_open d inner h
 
 -- ---- unop | "(" type stars ")" | "(" expr ")"
 
@@ -150,7 +148,7 @@ lead_values (inl (k, inl x)) = refl
 lead_values (inl (k, inr y)) = refl
 lead_values (inr p) = refl
 
-lead_rule : (d : ℕ) (inner : Inner) → Inside Good d inner → Rule (Unit {0}) late never a_lead lead_value d (spec.lead inner)
+lead_rule : (d : ℕ) (inner : Inner) → Inside Good d inner → Rule (Unit {0}) never a_lead lead_value d (spec.lead inner)
 unfolding spec.lead
 lead_rule d inner h =
     told_as a_lead lead_of lead_value lead_tells lead_grabs lead_all
@@ -161,7 +159,7 @@ part_values (inl p) = refl
 part_values (inr g) = refl
 
 -- the same, sorted
-pub part_rule : (d : ℕ) (inner : Inner) → Inside Good d inner → Rule (Unit {0}) late never a_lead (part_value group_of) d (spec.sort <$> spec.lead inner)
+pub part_rule : (d : ℕ) (inner : Inner) → Inside Good d inner → Rule (Unit {0}) never a_lead (part_value group_of) d (spec.sort <$> spec.lead inner)
 part_rule d inner h = remade (part_value group_of) part_values (mapped spec.sort (lead_rule d inner h))
 
 -- ---- first tokens

@@ -28,7 +28,6 @@ use Rattle.c_tree.specs.Classes.{is, word_of}
 use Rattle.c_tree.specs.Leaves.{quoted, comma}
 use Rattle.c_tree.specs.Expressions.{prefix_told, expr_told, primary_told}
 use Rattle.c_tree.proofs.ClassLemmas.{knows}
-use Rattle.c_cursor.specs.Reading.{late}
 use Rattle.c_cursor.proofs.Tokens.{class_is, apart_of}
 use Rattle.c_cursor.proofs.LeafRules.{a_name, name_rule}
 use Rattle.c_expr.specs.Front.{is_suffix, begins_lead, begins_suffix, begins_expr}
@@ -48,7 +47,7 @@ use Rattle.c_expr.proofs.Leads.{Good, no_good, a_lead, group_of, part_rule, lead
 abbrev pub exprs_or_none : Kind Word (List CExpr)
 exprs_or_none = a_list begins_expr (is classes.Comma) comma an_expr never
 
-listed_rule : {live : Type 0} {d : ℕ} {e : Readers} → Good live d e → Rule live late never exprs_or_none (λ xs. xs) d (spec.listed_by e)
+listed_rule : {live : Type 0} {d : ℕ} {e : Readers} → Good live d e → Rule live never exprs_or_none (λ xs. xs) d (spec.listed_by e)
 listed_rule good = lists begins_expr (is classes.Comma) never comma (knows classes.Comma refl) (no_class classes.Comma) (expr_stops classes.Comma refl refl) expr_starts (λ t e. refl) good.expr
 
 -- the `)` stands behind all of them
@@ -65,7 +64,7 @@ flat_arguments = pair (place never) (λ _. behind (word_of classes.OpenParen) (p
 abbrev arguments_of : ℕ → List CExpr → ℕ × List CExpr
 arguments_of k xs = (k, xs)
 
-flat_arguments_rule : {live : Type 0} {d : ℕ} {e : Readers} → Good live d e → Rule live late never flat_arguments (λ p. arguments_of p.0 p.1.0) d (spec.arguments_by e)
+flat_arguments_rule : {live : Type 0} {d : ℕ} {e : Readers} → Good live d e → Rule live never flat_arguments (λ p. arguments_of p.0 p.1.0) d (spec.arguments_by e)
 unfolding spec.arguments_by
 flat_arguments_rule {e = e} good =
     numbered (λ k p. arguments_of k p.0)
@@ -77,7 +76,7 @@ flat_arguments_rule {e = e} good =
 abbrev pub some_arguments : Kind Word (ℕ × List CExpr)
 some_arguments = record { told = λ p. deeper (noted p.0 & quoted classes.OpenParen & between comma (map expr_told p.1) & quoted classes.CloseParen); grabs = λ _ _. false }
 
-arguments_open : Opens Good late (is classes.OpenParen) (word_of classes.OpenParen) some_arguments spec.arguments_by
+arguments_open : Opens Good (is classes.OpenParen) (word_of classes.OpenParen) some_arguments spec.arguments_by
 arguments_open = record {
   rule = λ live m e good. told_as some_arguments (λ (p : ℕ × (List CExpr × Unit {0})). arguments_of p.0 p.1.0) (λ x. x) (λ p. refl) (λ p t. refl) (λ x. ((x.0, (x.1, tt)), refl)) (deeper_rule (flat_arguments_rule good));
   some = spec.readers 0;
@@ -99,11 +98,11 @@ named_value q = spec.named_by q.0 q.1
 named_starts : Starts (is classes.Name) a_named
 named_starts = pair_starts (is classes.Name) a_name (λ _. option (is classes.OpenParen) some_arguments never) name_starts
 
-named_rule : (d : ℕ) (inner : Inner) → Inside Good d inner → Rule (Unit {0}) late never a_named named_value d (spec.named inner)
+named_rule : (d : ℕ) (inner : Inner) → Inside Good d inner → Rule (Unit {0}) never a_named named_value d (spec.named inner)
 unfolding spec.named
 named_rule d inner h =
     seq (λ n. n) (λ n p. spec.named_by n p) (λ n s. and_then (spec.arguments_in inner s) (λ p s. Ok (spec.named_by n p, s))) (name_rule (λ t e. refl))
-    (λ n. mapped (spec.named_by n) (perhaps_deeper Good late (is classes.OpenParen) never (word_of classes.OpenParen) some_arguments spec.arguments_by arguments_open refl d inner h))
+    (λ n. mapped (spec.named_by n) (perhaps_deeper Good (is classes.OpenParen) never (word_of classes.OpenParen) some_arguments spec.arguments_by arguments_open refl d inner h))
 
 -- ---- an operand without prefixes and parentheses
 
@@ -116,7 +115,7 @@ a_plain = sum a_named a_literal
 abbrev plain_value : Plain → Primary
 plain_value = either named_value literal_value
 
-plain_rule : (d : ℕ) (inner : Inner) → Inside Good d inner → Rule (Unit {0}) late never a_plain plain_value d (spec.plain inner)
+plain_rule : (d : ℕ) (inner : Inner) → Inside Good d inner → Rule (Unit {0}) never a_plain plain_value d (spec.plain inner)
 unfolding spec.plain
 plain_rule d inner h =
     choice (is classes.Name) named_starts
@@ -183,7 +182,7 @@ leads = record { starts = lead_starts; stop = lead_stop; off = plain_off; free =
 abbrev no_number : Number
 no_number = record { token = 0; bytes = [] }
 
-led_rule : (d : ℕ) (inner : Inner) → Inside Good d inner → Rule (Unit {0}) late never a_led (λ p. p) d (spec.led inner)
+led_rule : (d : ℕ) (inner : Inner) → Inside Good d inner → Rule (Unit {0}) never a_led (λ p. p) d (spec.led inner)
 led_rule d inner h =
     told_as a_led led_of (λ p. p) led_says (λ x t. whole_grabs x.1 t) led_all
     (leading_rule begins_lead group_of plain_value leads (inr (inl no_number)) (part_rule d inner h) (plain_rule d inner h))
@@ -197,7 +196,7 @@ an_index = pair (place never) (λ _. behind (word_of classes.OpenBracket) (pair 
 abbrev index_value : ℕ × (CExpr × Unit {0}) → Suffix
 index_value p = suffix_forms.Index p.0 p.1.0
 
-index_rule : {live : Type 0} {d : ℕ} {e : Readers} → Good live d e → Rule live late never an_index index_value d (spec.index_by e)
+index_rule : {live : Type 0} {d : ℕ} {e : Readers} → Good live d e → Rule live never an_index index_value d (spec.index_by e)
 unfolding spec.index_by
 index_rule {e = e} good =
     numbered (λ k p. suffix_forms.Index k p.0)
@@ -206,7 +205,7 @@ index_rule {e = e} good =
     (seq (λ x. x) (λ x _. suffix_forms.Index k x) (λ x s. and_then (expect (is classes.CloseBracket) s) (λ _ s. Ok (suffix_forms.Index k x, s))) good.expr
     (λ x. last (is classes.CloseBracket) (word_of classes.CloseBracket) (suffix_forms.Index k x) (knows classes.CloseBracket refl) (expr_stops classes.CloseBracket refl refl x))))
 
-index_enters : Enters Good late (is classes.OpenBracket) (word_of classes.OpenBracket) an_index index_value spec.index_by
+index_enters : Enters Good (is classes.OpenBracket) (word_of classes.OpenBracket) an_index index_value spec.index_by
 index_enters = record {
   rule = λ live m e good. index_rule good;
   some = spec.readers 0;
@@ -265,21 +264,21 @@ suffix_starts =
 
 flat_suffix_closes : (n : ℕ) → Viable a_flat_suffix 0 n []
 flat_suffix_closes n =
-    let rule : Rule (Unit {0}) late never a_flat_suffix flat_suffix_value 0 spec.flat_suffix = flat_suffix_rule in
+    let rule : Rule (Unit {0}) never a_flat_suffix flat_suffix_value 0 spec.flat_suffix = flat_suffix_rule in
     rule.closes n
 
-suffix_rule : (d : ℕ) (inner : Inner) → Inside Good d inner → Rule (Unit {0}) late never a_suffix (λ x. x) d (spec.suffix inner)
+suffix_rule : (d : ℕ) (inner : Inner) → Inside Good d inner → Rule (Unit {0}) never a_suffix (λ x. x) d (spec.suffix inner)
 unfolding spec.suffix
 suffix_rule d inner h =
     told_as a_suffix suffix_of (λ x. x) suffix_says suffix_grabs suffix_all
-    (choice_deeper Good late (is classes.OpenBracket) (word_of classes.OpenBracket) an_index index_value spec.index_by index_enters a_flat_suffix flat_suffix_value flat_suffix_off refl inner h flat_suffix_closes flat_suffix_rule)
+    (choice_deeper Good (is classes.OpenBracket) (word_of classes.OpenBracket) an_index index_value spec.index_by index_enters a_flat_suffix flat_suffix_value flat_suffix_off refl inner h flat_suffix_closes flat_suffix_rule)
 
 suffixes_repeat : Repeats begins_suffix a_suffix
 suffixes_repeat = record { starts = suffix_starts; next = suffixes_apart; at_end = refl }
 
 -- ---- operands
 
-pub operand_rule : (d : ℕ) (inner : Inner) → Inside Good d inner → Rule (Unit {0}) late never an_operand (λ x. x) d (spec.operand inner)
+pub operand_rule : (d : ℕ) (inner : Inner) → Inside Good d inner → Rule (Unit {0}) never an_operand (λ x. x) d (spec.operand inner)
 unfolding spec.operand
 operand_rule d inner h =
     told_as an_operand operand_of (λ x. x) operand_says (λ x t. operand_grabs_are x.0 x.1.0.0 x.1.0.1 x.1.1 t) operand_all

@@ -56,22 +56,22 @@ mark_starts c fixed n x r h = (knows c fixed).yes
 
 pub name_starts : Starts (is classes.Name) a_name
 name_starts =
-    let rule : Rule (Unit {0}) (λ _. false) (λ t. not (is classes.Name t)) a_name (λ x. x) 0 name = name_rule (but (is classes.Name)) in
+    let rule : Rule (Unit {0}) (λ t. not (is classes.Name t)) a_name (λ x. x) 0 name = name_rule (but (is classes.Name)) in
     starts_of (is classes.Name) (no_class classes.Name) (λ x. refl) rule
 
 pub number_starts : Starts (is classes.Number) a_number
 number_starts =
-    let rule : Rule (Unit {0}) (λ _. false) (λ t. not (is classes.Number t)) a_number (λ x. x) 0 number = number_rule (but (is classes.Number)) in
+    let rule : Rule (Unit {0}) (λ t. not (is classes.Number t)) a_number (λ x. x) 0 number = number_rule (but (is classes.Number)) in
     starts_of (is classes.Number) (no_class classes.Number) (λ x. refl) rule
 
 pub character_starts : Starts (is classes.Character) a_character
 character_starts =
-    let rule : Rule (Unit {0}) (λ _. false) (λ t. not (is classes.Character t)) a_character (λ x. x) 0 character = character_rule (but (is classes.Character)) in
+    let rule : Rule (Unit {0}) (λ t. not (is classes.Character t)) a_character (λ x. x) 0 character = character_rule (but (is classes.Character)) in
     starts_of (is classes.Character) (no_class classes.Character) (λ x. refl) rule
 
 pub text_starts : Starts (is classes.Text) a_text
 text_starts =
-    let rule : Rule (Unit {0}) (λ _. false) (λ t. not (is classes.Text t)) a_text (λ x. x) 0 text = text_rule (but (is classes.Text)) in
+    let rule : Rule (Unit {0}) (λ t. not (is classes.Text t)) a_text (λ x. x) 0 text = text_rule (but (is classes.Text)) in
     starts_of (is classes.Text) (no_class classes.Text) (λ x. refl) rule
 
 -- trees that begin with a token of another class
@@ -83,7 +83,7 @@ off_class a b K other starts = starts_off (is b) (is a) K starts (apart_of b a o
 abbrev pub null_value : ℕ × Unit {0} → Primary
 null_value p = forms.Null p.0
 
-null_rule : {live : Type 0} {late : Word → Bool} {d : ℕ} → Rule live late never (a_mark classes.Null) null_value d spec.null
+null_rule : {live : Type 0} {d : ℕ} → Rule live never (a_mark classes.Null) null_value d spec.null
 unfolding spec.null
 null_rule =
     numbered (λ k _. forms.Null k) (λ k s. and_then (expect (is classes.Null) s) (λ _ s. Ok (forms.Null k, s)))
@@ -92,7 +92,7 @@ null_rule =
 abbrev pub a_text_or_null : Kind Word (Text ⊎ (ℕ × Unit {0}))
 a_text_or_null = sum a_text (a_mark classes.Null)
 
-text_or_null_rule : {live : Type 0} {late : Word → Bool} {d : ℕ} → Rule live late never a_text_or_null (either (λ t. forms.Text t) null_value) d spec.text_or_null
+text_or_null_rule : {live : Type 0} {d : ℕ} → Rule live never a_text_or_null (either (λ t. forms.Text t) null_value) d spec.text_or_null
 unfolding spec.text_or_null
 text_or_null_rule =
     choice (is classes.Text) text_starts (off_class classes.Text classes.Null (a_mark classes.Null) refl (mark_starts classes.Null refl))
@@ -118,7 +118,7 @@ literal_no_lead =
 text_or_null_off : (a : Class) → sameb the_type a classes.Text ≡ false → sameb the_type a classes.Null ≡ false → Off (is a) a_text_or_null
 text_or_null_off a r s = sum_off (is a) a_text (a_mark classes.Null) (off_class a classes.Text a_text r text_starts) (off_class a classes.Null (a_mark classes.Null) s (mark_starts classes.Null refl))
 
-pub literal_rule : {live : Type 0} {late : Word → Bool} {d : ℕ} → Rule live late never a_literal literal_value d spec.literal
+pub literal_rule : {live : Type 0} {d : ℕ} → Rule live never a_literal literal_value d spec.literal
 unfolding spec.literal
 literal_rule =
     choice (is classes.Number) number_starts
@@ -135,25 +135,25 @@ a_marked_name c = pair (place never) (λ _. behind (word_of c) a_name)
 pub marked_name_starts : (c : Class) → is_fixed c ≡ true → Starts (is c) (a_marked_name c)
 marked_name_starts c fixed n x r h = (knows c fixed).yes
 
-member_rule : {live : Type 0} {late : Word → Bool} {d : ℕ} → Rule live late never (a_marked_name classes.Dot) (λ p. suffix_forms.Member p.0 p.1) d spec.member
+member_rule : {live : Type 0} {d : ℕ} → Rule live never (a_marked_name classes.Dot) (λ p. suffix_forms.Member p.0 p.1) d spec.member
 unfolding spec.member
 member_rule =
     numbered (λ k n. suffix_forms.Member k n) (λ k s. and_then (expect (is classes.Dot) s) (λ _ s. and_then (name s) (λ n s. Ok (suffix_forms.Member k n, s))))
     (λ k. token_then (is classes.Dot) (word_of classes.Dot) (knows classes.Dot refl) refl (mapped (λ n. suffix_forms.Member k n) (name_rule (λ t e. refl))))
 
-arrow_rule : {live : Type 0} {late : Word → Bool} {d : ℕ} → Rule live late never (a_marked_name classes.Arrow) (λ p. suffix_forms.Arrow p.0 p.1) d spec.arrow
+arrow_rule : {live : Type 0} {d : ℕ} → Rule live never (a_marked_name classes.Arrow) (λ p. suffix_forms.Arrow p.0 p.1) d spec.arrow
 unfolding spec.arrow
 arrow_rule =
     numbered (λ k n. suffix_forms.Arrow k n) (λ k s. and_then (expect (is classes.Arrow) s) (λ _ s. and_then (name s) (λ n s. Ok (suffix_forms.Arrow k n, s))))
     (λ k. token_then (is classes.Arrow) (word_of classes.Arrow) (knows classes.Arrow refl) refl (mapped (λ n. suffix_forms.Arrow k n) (name_rule (λ t e. refl))))
 
-increment_rule : {live : Type 0} {late : Word → Bool} {d : ℕ} → Rule live late never (a_mark classes.Increment) (λ p. suffix_forms.Increment p.0) d spec.increment
+increment_rule : {live : Type 0} {d : ℕ} → Rule live never (a_mark classes.Increment) (λ p. suffix_forms.Increment p.0) d spec.increment
 unfolding spec.increment
 increment_rule =
     numbered (λ k _. suffix_forms.Increment k) (λ k s. and_then (expect (is classes.Increment) s) (λ _ s. Ok (suffix_forms.Increment k, s)))
     (λ k. last (is classes.Increment) (word_of classes.Increment) (suffix_forms.Increment k) (knows classes.Increment refl) refl)
 
-decrement_rule : {live : Type 0} {late : Word → Bool} {d : ℕ} → Rule live late never (a_mark classes.Decrement) (λ p. suffix_forms.Decrement p.0) d spec.decrement
+decrement_rule : {live : Type 0} {d : ℕ} → Rule live never (a_mark classes.Decrement) (λ p. suffix_forms.Decrement p.0) d spec.decrement
 unfolding spec.decrement
 decrement_rule =
     numbered (λ k _. suffix_forms.Decrement k) (λ k s. and_then (expect (is classes.Decrement) s) (λ _ s. Ok (suffix_forms.Decrement k, s)))
@@ -170,7 +170,7 @@ step_off a p q =
     sum_off (is a) (a_mark classes.Increment) (a_mark classes.Decrement) (off_class a classes.Increment (a_mark classes.Increment) p (mark_starts classes.Increment refl))
     (off_class a classes.Decrement (a_mark classes.Decrement) q (mark_starts classes.Decrement refl))
 
-step_rule : {live : Type 0} {late : Word → Bool} {d : ℕ} → Rule live late never a_step step_value d spec.stepped
+step_rule : {live : Type 0} {d : ℕ} → Rule live never a_step step_value d spec.stepped
 unfolding spec.stepped
 step_rule = choice (is classes.Increment) (mark_starts classes.Increment refl) (off_class classes.Increment classes.Decrement (a_mark classes.Decrement) refl (mark_starts classes.Decrement refl)) increment_rule decrement_rule
 
@@ -189,7 +189,7 @@ flat_suffix_off =
     sum_off (is classes.OpenBracket) (a_marked_name classes.Dot) (sum (a_marked_name classes.Arrow) a_step)
     (off_class classes.OpenBracket classes.Dot (a_marked_name classes.Dot) refl (marked_name_starts classes.Dot refl)) (behind_dot_off classes.OpenBracket refl refl refl)
 
-pub flat_suffix_rule : {live : Type 0} {late : Word → Bool} {d : ℕ} → Rule live late never a_flat_suffix flat_suffix_value d spec.flat_suffix
+pub flat_suffix_rule : {live : Type 0} {d : ℕ} → Rule live never a_flat_suffix flat_suffix_value d spec.flat_suffix
 unfolding spec.flat_suffix
 flat_suffix_rule =
     choice (is classes.Dot) (marked_name_starts classes.Dot refl) (behind_dot_off classes.Dot refl refl refl) member_rule
@@ -213,7 +213,7 @@ sign_off = starts_off begins_sign (is classes.OpenParen) a_sign sign_starts (apa
 abbrev pub sign_value : ℕ × UnaryOperator → Lead
 sign_value p = leads.Prefix (prefixes.Sign p.0 p.1)
 
-pub sign_rule : {live : Type 0} {late : Word → Bool} {d : ℕ} → Rule live late never a_sign sign_value d spec.sign
+pub sign_rule : {live : Type 0} {d : ℕ} → Rule live never a_sign sign_value d spec.sign
 unfolding spec.sign
 sign_rule =
     numbered (λ k o. leads.Prefix (prefixes.Sign k o)) (λ k s. and_then (token (λ t. unary_of (class_at t)) s) (λ o s. Ok (leads.Prefix (prefixes.Sign k o), s)))
@@ -253,7 +253,7 @@ close_behind t ss =
     behind_stars (is classes.CloseParen) (a_type.grabs t) (apart_of classes.CloseParen classes.Star refl) (apart_of classes.CloseParen classes.Const refl) (behind_type (is classes.CloseParen) close_apart t) ss (Some (word_of classes.CloseParen))
     (knows classes.CloseParen refl).yes
 
-pub cast_rule : {live : Type 0} {late : Word → Bool} {d : ℕ} (k : ℕ) → Rule live late never a_cast (cast_value k) d (spec.cast k)
+pub cast_rule : {live : Type 0} {d : ℕ} (k : ℕ) → Rule live never a_cast (cast_value k) d (spec.cast k)
 unfolding spec.cast
 cast_rule k =
     seq (λ t. t) (λ t x. leads.Prefix (prefixes.Cast k t x.0)) (λ t s. and_then (stars s) (λ ss s. and_then (expect (is classes.CloseParen) s) (λ _ s. Ok (leads.Prefix (prefixes.Cast k t ss), s))))

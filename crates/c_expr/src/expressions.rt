@@ -211,14 +211,13 @@ fn lead(alloc: Global, tokens: &mut Cursor<'_>, depth: u32) -> Result<Lead, Stop
 }
 
 /// A cast, where a type follows the `(`, and else an expression in parentheses (6.5.1, 6.5.4). The
-/// `(` opens a level there alone.
+/// `(` opens a level there alone, which the token behind it shows.
 // "(" type stars ")" | "(" expr ")"
 #[cycle(expr)]
 fn bracket(alloc: Global, tokens: &mut Cursor<'_>, depth: u32) -> Result<Lead, Stop>
     ensures { Reads (spec.bracket (inside depth) tokens.old) result tokens.new }
 {
     let token = tokens.place();
-    let inner = enter(tokens, depth);
     tokens.expect(Class::OpenParen)?;
     if begins_type(tokens) {
         return cast(alloc, tokens, token);
@@ -226,7 +225,8 @@ fn bracket(alloc: Global, tokens: &mut Cursor<'_>, depth: u32) -> Result<Lead, S
     if !begins_expr(tokens) {
         return Err(tokens.refuse());
     }
-    group(alloc, tokens, inner?, token)
+    let inner = enter(tokens, depth)?;
+    group(alloc, tokens, inner, token)
 }
 
 /// An expression in parentheses, behind the `(` of that number (6.5.1).

@@ -6,7 +6,7 @@ ghost use Rattle.c_expr.specs.Reading as spec;
 use c_cursor::Cursor;
 use dpi_grammar::Stop;
 
-/// One level less, or that the next token opens a level too many.
+/// One level less, or that only trees of too many levels go on with the next token.
 pub fn enter(tokens: &Cursor<'_>, depth: u32) -> Result<u32, Stop>
     ensures { MatchResult result
         (λ inner. (inner < depth) × (spec.inside depth ≡ Some (spec.readers inner)))

@@ -94,32 +94,33 @@ const PARTS: [(Part, &[u8], Result<u32, Stop>); 73] = [
     (Part::Exprs, b"a,", Err(Stop::Syntax(2))),
 ];
 
-/// A text, how many levels are left, and the number of the token behind the expression or of the
-/// one that stops the parser, by the table of levels in docs/LANGUAGES.md.
+/// A text, how many levels are left, and the number of the token behind the expression, of the
+/// refused one, or of the first with which only deeper expressions go on, by the table of levels in
+/// docs/LANGUAGES.md.
 const LEVELS: [(&[u8], u32, Result<u32, Stop>); 36] = [
     (b"a = b = c + -d", 0, Ok(8)),
     (b"(int) (const char *) a", 0, Ok(9)),
     (b"a.b->c++", 0, Ok(6)),
-    (b"(a)", 0, Err(Stop::TooDeep(0))),
+    (b"(a)", 0, Err(Stop::TooDeep(1))),
     (b"(a)", 1, Ok(3)),
-    (b"-(a)", 0, Err(Stop::TooDeep(1))),
-    (b"(int) (a)", 0, Err(Stop::TooDeep(3))),
+    (b"-(a)", 0, Err(Stop::TooDeep(2))),
+    (b"(int) (a)", 0, Err(Stop::TooDeep(4))),
     (b"(int) (a)", 1, Ok(6)),
     (b"(int)", 0, Err(Stop::Syntax(3))),
     (b"(int", 0, Err(Stop::Syntax(2))),
-    (b"((", 0, Err(Stop::TooDeep(0))),
+    (b"((", 0, Err(Stop::TooDeep(1))),
     (b"((", 1, Err(Stop::Syntax(2))),
-    (b"((a", 1, Err(Stop::TooDeep(1))),
+    (b"((a", 1, Err(Stop::TooDeep(2))),
     (b"((int", 1, Err(Stop::Syntax(3))),
     (b"(", 0, Err(Stop::Syntax(1))),
     (b"()", 0, Err(Stop::Syntax(1))),
     (b"(;", 0, Err(Stop::Syntax(1))),
-    (b"(1;", 0, Err(Stop::TooDeep(0))),
+    (b"(1;", 0, Err(Stop::TooDeep(1))),
     (b"f()", 0, Err(Stop::TooDeep(1))),
     (b"f(;", 0, Err(Stop::TooDeep(1))),
     (b"f()", 1, Ok(3)),
     (b"f(g())", 1, Err(Stop::TooDeep(3))),
-    (b"f(a, (b))", 1, Err(Stop::TooDeep(4))),
+    (b"f(a, (b))", 1, Err(Stop::TooDeep(5))),
     (b"a[1]", 0, Err(Stop::TooDeep(1))),
     (b"a[1][2]", 1, Ok(7)),
     (b"a[b[1]]", 1, Err(Stop::TooDeep(3))),
@@ -129,7 +130,7 @@ const LEVELS: [(&[u8], u32, Result<u32, Stop>); 36] = [
     (b"a ? b : c ? d : e", 1, Err(Stop::TooDeep(5))),
     (b"a ? b : c ? d : e", 2, Ok(9)),
     (b"a ? b ? c : d : e", 1, Err(Stop::TooDeep(3))),
-    (b"((a) + (b))", 1, Err(Stop::TooDeep(1))),
+    (b"((a) + (b))", 1, Err(Stop::TooDeep(2))),
     (b"((a) + (b))", 2, Ok(9)),
     (
         b"((((((((((((((((((((((((a))))))))))))))))))))))))",
@@ -139,7 +140,7 @@ const LEVELS: [(&[u8], u32, Result<u32, Stop>); 36] = [
     (
         b"(((((((((((((((((((((((((a)))))))))))))))))))))))))",
         24,
-        Err(Stop::TooDeep(24)),
+        Err(Stop::TooDeep(25)),
     ),
 ];
 

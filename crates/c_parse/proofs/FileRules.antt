@@ -38,7 +38,7 @@ use Rattle.c_tree.specs.Types.{type_told, stars_told}
 use Rattle.c_tree.specs.Declarations.{store_told, variables_told, declarator_told}
 use Rattle.c_tree.specs.File.{body_told, external_told, file_told}
 use Rattle.c_tree.proofs.ClassLemmas.{knows}
-use Rattle.c_cursor.specs.Reading.{late, name}
+use Rattle.c_cursor.specs.Reading.{name}
 use Rattle.c_cursor.proofs.Tokens.{apart_of, word_is_not, define_class}
 use Rattle.c_cursor.proofs.LeafRules.{a_define, define_rule, name_rule}
 use Rattle.c_types.specs.Reading.{begins_type, stars, type_name}
@@ -83,16 +83,16 @@ body_all : (z : Body) → (x : (ℕ × (List Part × (ℕ × Unit {0}))) ⊎ (�
 body_all (bodies.Prototype k) = (inr (k, tt), refl)
 body_all (bodies.Block b) = let m = block_all b in (inl m.0, ap bodies.Block m.1)
 
-prototype_rule : {live : Type 0} {d : ℕ} → Rule live late never a_prototype (λ p. bodies.Prototype p.0) d spec.prototype
+prototype_rule : {live : Type 0} {d : ℕ} → Rule live never a_prototype (λ p. bodies.Prototype p.0) d spec.prototype
 unfolding spec.prototype
 prototype_rule =
     numbered (λ k _. bodies.Prototype k) (λ k s. and_then (expect (is classes.Semicolon) s) (λ _ s. _))
     (λ k. last (is classes.Semicolon) (word_of classes.Semicolon) (bodies.Prototype k) (knows classes.Semicolon refl) refl)
 
 prototype_viable : (n : ℕ) → Viable a_prototype 0 n []
-prototype_viable n = let rule : Rule (Unit {0}) late never a_prototype (λ p. bodies.Prototype p.0) 0 spec.prototype = prototype_rule in rule.closes n
+prototype_viable n = let rule : Rule (Unit {0}) never a_prototype (λ p. bodies.Prototype p.0) 0 spec.prototype = prototype_rule in rule.closes n
 
-block_enters : Enters Good late (is classes.OpenBrace) (word_of classes.OpenBrace) in_block (λ p. bodies.Block (block_made p)) (λ r s. and_then (block_by r.value r.body s) (λ b s. Ok (bodies.Block b, s)))
+block_enters : Enters Good (is classes.OpenBrace) (word_of classes.OpenBrace) in_block (λ p. bodies.Block (block_made p)) (λ r s. and_then (block_by r.value r.body s) (λ b s. Ok (bodies.Block b, s)))
 block_enters = record {
   rule = λ live m r g. mapped bodies.Block (block_rule r.value r.body g.0 g.1);
   some = some_readers;
@@ -101,10 +101,10 @@ block_enters = record {
   starts = λ n x r h. refl;
 }
 
-body_rule : (d : ℕ) → Rule (Unit {0}) late never a_body (λ x. x) d (spec.body d)
+body_rule : (d : ℕ) → Rule (Unit {0}) never a_body (λ x. x) d (spec.body d)
 body_rule d =
     told_as a_body body_made (λ x. x) body_tells body_goes body_all
-    (choice_deeper Good late (is classes.OpenBrace) (word_of classes.OpenBrace) in_block (λ p. bodies.Block (block_made p)) (λ r s. and_then (block_by r.value r.body s) (λ b s. Ok (bodies.Block b, s))) block_enters a_prototype (λ p. bodies.Prototype p.0)
+    (choice_deeper Good (is classes.OpenBrace) (word_of classes.OpenBrace) in_block (λ p. bodies.Block (block_made p)) (λ r s. and_then (block_by r.value r.body s) (λ b s. Ok (bodies.Block b, s))) block_enters a_prototype (λ p. bodies.Prototype p.0)
     (λ n x r h g. word_is_not classes.OpenBrace classes.Semicolon refl refl) refl (inside d) (inside_good d) prototype_viable prototype_rule)
 
 -- ---- store? type stars id
@@ -118,7 +118,7 @@ a_head = record { told = head_told; grabs = λ _ _. false }
 abbrev head_of : Option Store × (CType × (List Star × Name)) → Head
 head_of p = record { store = p.0; kind = p.1.0; stars = p.1.1.0; name = p.1.1.1 }
 
-head_rule : {live : Type 0} {before : Option Word → Bool} {d : ℕ} → Apart begins_variables before → Rule live late before a_head (λ x. x) d spec.head
+head_rule : {live : Type 0} {before : Option Word → Bool} {d : ℕ} → Apart begins_variables before → Rule live before a_head (λ x. x) d spec.head
 unfolding spec.head
 head_rule {before = before} apart =
     told_as a_head head_of (λ x. x) (λ p. refl) (λ p t. refl) (λ h. ((h.store, (h.kind, (h.stars, h.name))), refl))
@@ -137,7 +137,7 @@ function_tail = pair (place never) (λ _. behind (word_of classes.OpenParen) (pa
 abbrev function_of : Head → ℕ × (Params × Body) → Function
 function_of h p = record { store = h.store; kind = h.kind; stars = h.stars; name = h.name; token = p.0; params = p.1.0; body = p.1.1 }
 
-function_rule : (d : ℕ) (h : Head) → Rule (Unit {0}) late never function_tail (function_of h) d (spec.function_behind d h)
+function_rule : (d : ℕ) (h : Head) → Rule (Unit {0}) never function_tail (function_of h) d (spec.function_behind d h)
 unfolding spec.function_behind
 function_rule d h =
     numbered (λ k p. function_of h (k, p)) (λ k s. and_then (expect (is classes.OpenParen) s) (λ _ s. and_then (parameters s) (λ ps s. and_then (expect (is classes.CloseParen) s) (λ _ s. and_then (spec.body d s) (λ b s. _)))))
@@ -179,7 +179,7 @@ more_close : (q : Option Array × Option Initializer) (ds : List Declarator) →
 more_close q ds = stops_at classes.Semicolon refl ((more_declarators ((declarator_tail no_call).grabs q)).grabs ds)
     (list_apart (is classes.Semicolon) (is classes.Comma) ((declarator_tail no_call).grabs q) (behind comma a_declarator) (apart_of classes.Semicolon classes.Comma refl) (semicolon_tail q) declarator_semicolon ds)
 
-variables_behind_rule : (d : ℕ) (h : Head) → Rule (Unit {0}) late no_call variables_tail (variables_of h) d (spec.variables_behind d h)
+variables_behind_rule : (d : ℕ) (h : Head) → Rule (Unit {0}) no_call variables_tail (variables_of h) d (spec.variables_behind d h)
 unfolding spec.variables_behind
 variables_behind_rule d h =
     seq (λ q. declarator_of h.stars h.name q.0 q.1) (λ q p. variables_of h (q, p)) (λ x s. and_then (more_declarators_by (expr d) (x ∷ []) s) (λ ds s. and_then (expect (is classes.Semicolon) s) (λ _ s. _)))
@@ -200,7 +200,7 @@ a_declared = pair a_head (λ _. sum function_tail variables_tail)
 abbrev behind_made : Head → Behind → External
 behind_made h = either (λ p. externals.Function (function_of h p)) (λ p. externals.Variables (variables_of h p))
 
-declared_rule : {before : Option Word → Bool} (d : ℕ) → Apart begins_variables before → Rule (Unit {0}) late before a_declared (λ p. behind_made p.0 p.1) d (spec.declared d)
+declared_rule : {before : Option Word → Bool} (d : ℕ) → Apart begins_variables before → Rule (Unit {0}) before a_declared (λ p. behind_made p.0 p.1) d (spec.declared d)
 unfolding spec.declared
 declared_rule d apart =
     seq (λ h. h) behind_made (spec.behind_head d) (head_rule apart)
@@ -272,10 +272,10 @@ define_starts n x r h = define_class x.bytes
 
 declared_off : Off (is classes.Define) a_declared
 declared_off n x r h g =
-    let rule : Rule (Unit {0}) late (is classes.Define) a_declared (λ p. behind_made p.0 p.1) 0 (spec.declared 0) = declared_rule 0 (apart_back (is classes.Define) begins_variables (variables_off classes.Define refl)) in
+    let rule : Rule (Unit {0}) (is classes.Define) a_declared (λ p. behind_made p.0 p.1) 0 (spec.declared 0) = declared_rule 0 (apart_back (is classes.Define) begins_variables (variables_off classes.Define refl)) in
     rule.keeps n x r h g
 
-pub external_rule : {before : Option Word → Bool} (d : ℕ) → Apart begins_external before → Rule (Unit {0}) late before an_external (λ x. x) d (spec.external d)
+pub external_rule : {before : Option Word → Bool} (d : ℕ) → Apart begins_external before → Rule (Unit {0}) before an_external (λ x. x) d (spec.external d)
 external_rule {before = before} d apart =
     shaped an_external external_made (λ x. x) external_form external_all
     (choice (is classes.Define) define_starts declared_off
@@ -289,13 +289,13 @@ no_external = or_both _ _ (no_class classes.Define) no_start
 
 external_starts : Starts begins_external an_external
 external_starts =
-    let rule : Rule (Unit {0}) late (λ t. _) an_external (λ x. x) 0 (spec.external 0) = external_rule 0 (but begins_external) in
+    let rule : Rule (Unit {0}) (λ t. _) an_external (λ x. x) 0 (spec.external 0) = external_rule 0 (but begins_external) in
     starts_of begins_external no_external (λ x. refl) rule
 
 externals_repeat : Repeats begins_external an_external
 externals_repeat = record { starts = external_starts; next = λ x t e. refl; at_end = no_external }
 
-file_part_rule : (d : ℕ) → Rule (Unit {0}) late never a_file (λ x. x) d (spec.file d)
+file_part_rule : (d : ℕ) → Rule (Unit {0}) never a_file (λ x. x) d (spec.file d)
 unfolding spec.file
 file_part_rule d =
     told_as a_file (λ xs. let f : CFile = record { externals = xs } in f) (λ x. x) (λ xs. refl) (λ xs t. refl) (λ f. (f.externals, refl))
@@ -306,10 +306,10 @@ ends_free prior [] e = e
 ends_free prior (x ∷ xs) e = ends_free (λ t. false) xs refl
 
 -- a whole list of tokens
-pub file_rule : (d : ℕ) → Rule (Unit {0}) late never (whole a_file) (λ x. x) d (spec.whole d)
+pub file_rule : (d : ℕ) → Rule (Unit {0}) never (whole a_file) (λ x. x) d (spec.whole d)
 unfolding spec.whole
 file_rule d = to_end a_file (λ f. or_both _ _ no_external (ends_free never f.externals refl)) (file_part_rule d)
 
 -- a list of tokens has at most one tree
 pub one_file : IsUnambiguous file_told
-one_file = unambiguous late a_file spec.whole file_rule
+one_file = unambiguous a_file spec.whole file_rule

@@ -134,34 +134,34 @@ in_if = pair (place never) (λ _. behind (word_of classes.If) (pair a_condition 
 abbrev pub if_made : ℕ × (CExpr × (Stmt × (List ElseIf × Option Else))) → If
 if_made p = branch p.0 p.1.0 p.1.1.0 p.1.1.1.0 p.1.1.1.1
 
-module _ {live : Type 0} {late : Word → Bool} {d : ℕ} (e : Parses CExpr) (s : Parses Stmt) (expr_rule : Rule live late never an_expr (λ x. x) d e) (stmt_rule : Rule live late never a_stmt (λ x. x) d s) where
-  else_if_rule : (k : ℕ) → Rule live late never else_if_parts (λ p. else_if k p.0 p.1) d (spec.else_if_by e s k)
+module _ {live : Type 0} {d : ℕ} (e : Parses CExpr) (s : Parses Stmt) (expr_rule : Rule live never an_expr (λ x. x) d e) (stmt_rule : Rule live never a_stmt (λ x. x) d s) where
+  else_if_rule : (k : ℕ) → Rule live never else_if_parts (λ p. else_if k p.0 p.1) d (spec.else_if_by e s k)
   unfolding spec.else_if_by
   else_if_rule k =
       token_then (is classes.If) (word_of classes.If) (knows classes.If refl) refl
       (seq (λ x. x) (λ x b. else_if k x b) (λ x t. and_then (s t) (λ b t. _)) (condition_rule e expr_rule refl) (λ x. mapped (λ b. else_if k x b) stmt_rule))
 
-  else_rule : (k : ℕ) → Rule live late never a_stmt (λ b. last_else k b) d (spec.else_by e s k)
+  else_rule : (k : ℕ) → Rule live never a_stmt (λ b. last_else k b) d (spec.else_by e s k)
   unfolding spec.else_by
   else_rule k = mapped (λ b. last_else k b) stmt_rule
 
-  behind_else_rule : (k : ℕ) → Rule live late never (sum else_if_parts last_body) (branch_value k) d (spec.behind_else_by e s k)
+  behind_else_rule : (k : ℕ) → Rule live never (sum else_if_parts last_body) (branch_value k) d (spec.behind_else_by e s k)
   behind_else_rule k =
       choice_past (is classes.If) never else_if_parts last_body (λ n x r h. (knows classes.If refl).yes) (mapped behind_if.Other (else_if_rule k))
       (narrowed no_if not_if a_stmt (λ n x r i e. fine_by (words a_stmt x) r (stmt_starts n x [] i) e) (last_viable d) (λ n x r i. other_by (words a_stmt x) r (stmt_starts n x [] i.1) i.0) (mapped behind_if.Last (else_rule k)))
 
-  branch_rule : Rule live late never part_parts (λ p. branch_value p.0 p.1) d (spec.branch_by e s)
+  branch_rule : Rule live never part_parts (λ p. branch_value p.0 p.1) d (spec.branch_by e s)
   unfolding spec.branch_by
   branch_rule =
       numbered branch_value (λ k t. and_then (expect (is classes.Else) t) (λ _. spec.behind_else_by e s k))
       (λ k. token_then (is classes.Else) (word_of classes.Else) (knows classes.Else refl) refl (behind_else_rule k))
 
-  branches_rule : (b : Stmt) → Rule live late (a_stmt.grabs b) (some_branches b) (λ p. p) d (spec.branches_by e s)
+  branches_rule : (b : Stmt) → Rule live (a_stmt.grabs b) (some_branches b) (λ p. p) d (spec.branches_by e s)
   branches_rule b =
       branched (is classes.Else) the_parts (a_stmt.grabs b) (stmt_told b).unended (body_goes_on b)
       (told_as a_branch branch_made (λ x. x) branch_told_as branch_goes branch_all (mapped spec.branch_sort branch_rule))
 
-  pub if_rule : Rule live late never in_if if_made d (spec.if_by e s)
+  pub if_rule : Rule live never in_if if_made d (spec.if_by e s)
   unfolding spec.if_by
   if_rule =
       numbered (λ k p. if_made (k, p)) (λ k t. and_then (expect (is classes.If) t) (λ _ t. and_then (spec.condition_by e t) (λ x t. and_then (s t) (λ b t. and_then (spec.branches_by e s t) (λ q t. _)))))

@@ -109,8 +109,8 @@ begins_declarator t = is classes.Star t || is classes.Name t
 pub type_no_declarator : Apart begins_declarator begins_type
 type_no_declarator = or_apart (is classes.Star) (is classes.Name) begins_type (type_off classes.Star refl) (type_off classes.Name refl)
 
-module _ {live : Type 0} {late : Word → Bool} {d : ℕ} (e : Parses CExpr) (expr_rule : Rule live late never an_expr (λ x. x) d e) where
-  init_list_rule : Rule live late never an_init_list (λ p. inits.List p.0 p.1.0) d (spec.init_list_by e)
+module _ {live : Type 0} {d : ℕ} (e : Parses CExpr) (expr_rule : Rule live never an_expr (λ x. x) d e) where
+  init_list_rule : Rule live never an_init_list (λ p. inits.List p.0 p.1.0) d (spec.init_list_by e)
   unfolding spec.init_list_by
   init_list_rule =
       numbered (λ k p. inits.List k p.0) (λ k s. and_then (expect (is classes.OpenBrace) s) (λ _ s. and_then (separated (is classes.Comma) e s) (λ xs s. and_then (expect (is classes.CloseBrace) s) (λ _ s. _))))
@@ -120,13 +120,13 @@ module _ {live : Type 0} {late : Word → Bool} {d : ℕ} (e : Parses CExpr) (ex
       (λ xs. last (is classes.CloseBrace) (word_of classes.CloseBrace) (inits.List k xs) (knows classes.CloseBrace refl)
       (stops_at classes.CloseBrace refl ((commas (is classes.Comma) comma an_expr).grabs xs) (commas_apart (is classes.CloseBrace) (is classes.Comma) comma an_expr (apart_of classes.CloseBrace classes.Comma refl) (expr_apart classes.CloseBrace refl refl) xs)))))
 
-  init_rule : Rule live late never an_init (λ x. x) d (spec.init_by e)
+  init_rule : Rule live never an_init (λ x. x) d (spec.init_by e)
   init_rule =
       told_as an_init init_made (λ x. x) init_tells init_goes init_all
       (choice (is classes.OpenBrace) init_list_starts (starts_off begins_expr (is classes.OpenBrace) an_expr expr_starts (apart_back (is classes.OpenBrace) begins_expr (expr_off classes.OpenBrace refl)))
       init_list_rule (mapped inits.Value expr_rule))
 
-  initializer_rule : Rule live late never an_initializer (λ x. x) d (spec.initializer_by e)
+  initializer_rule : Rule live never an_initializer (λ x. x) d (spec.initializer_by e)
   unfolding spec.initializer_by
   initializer_rule =
       told_as an_initializer (λ (p : ℕ × Init). let i : Initializer = record { token = p.0; value = p.1 } in i) (λ x. x) (λ p. refl) (λ p t. refl) (λ i. ((i.token, i.value), refl))
@@ -135,14 +135,14 @@ module _ {live : Type 0} {late : Word → Bool} {d : ℕ} (e : Parses CExpr) (ex
 
   -- behind stars and a name
   pub behind_rule : (prior : Option Word → Bool) (ss : List Star) (n : Name) → Apart (is classes.OpenBracket) prior → Apart (is classes.Assign) prior
-      → Rule live late prior (declarator_tail prior) (λ p. declarator_of ss n p.0 p.1) d (spec.declarator_behind e ss n)
+      → Rule live prior (declarator_tail prior) (λ p. declarator_of ss n p.0 p.1) d (spec.declarator_behind e ss n)
   unfolding spec.declarator_behind
   behind_rule prior ss n bracket assign =
       seq (λ a. a) (λ a i. declarator_of ss n a i) (λ a s. and_then (optional (is classes.Assign) (spec.initializer_by e) s) (λ i s. _)) (perhaps (is classes.OpenBracket) prior array_starts bracket array_rule)
       (λ a. mapped (λ i. declarator_of ss n a i) (perhaps (is classes.Assign) ((array_before prior).grabs a) initializer_starts
       (option_apart (is classes.Assign) (is classes.OpenBracket) prior an_array (apart_of classes.Assign classes.OpenBracket refl) assign (λ x t e. refl) a) initializer_rule))
 
-  pub declarator_rule : {before : Option Word → Bool} → Apart begins_declarator before → Rule live late before a_declarator (λ x. x) d (spec.declarator_by e)
+  pub declarator_rule : {before : Option Word → Bool} → Apart begins_declarator before → Rule live before a_declarator (λ x. x) d (spec.declarator_by e)
   unfolding spec.declarator_by
   declarator_rule {before = before} apart =
       told_as a_declarator (λ (p : List Star × (Name × (Option Array × Option Initializer))). declarator_of p.0 p.1.0 p.1.1.0 p.1.1.1) (λ x. x) (λ p. refl) (λ p t. refl) (λ x. ((x.stars, (x.name, (x.array, x.initializer))), refl))
@@ -151,10 +151,10 @@ module _ {live : Type 0} {late : Word → Bool} {d : ℕ} (e : Parses CExpr) (ex
       (name_rule (behind_stars (is classes.Name) before (apart_of classes.Name classes.Star refl) (apart_of classes.Name classes.Const refl) (λ t go. apart t (in_right (is classes.Star t) (is classes.Name t) go)) ss))
       (λ n. behind_rule (λ t. false) ss n (λ t go. refl) (λ t go. refl))))
 
-  pub declarators_rule : {before : Option Word → Bool} → Apart begins_declarator before → Rule live late before some_declarators (λ x. x) d (spec.declarators_by e)
+  pub declarators_rule : {before : Option Word → Bool} → Apart begins_declarator before → Rule live before some_declarators (λ x. x) d (spec.declarators_by e)
   declarators_rule apart = separate (is classes.Comma) comma (knows classes.Comma refl) (no_class classes.Comma) declarator_comma (declarator_rule (λ t go. refl)) (declarator_rule apart)
 
-  pub variables_rule : {before : Option Word → Bool} → Apart begins_variables before → Rule live late before some_variables (λ x. x) d (spec.variables_by e)
+  pub variables_rule : {before : Option Word → Bool} → Apart begins_variables before → Rule live before some_variables (λ x. x) d (spec.variables_by e)
   unfolding spec.variables_by
   variables_rule {before = before} apart =
       told_as some_variables (λ (p : Option Store × (CType × (List Declarator × Unit {0}))). let v : Variables = record { store = p.0; kind = p.1.0; declarators = p.1.1.0 } in v) (λ x. x) (λ p. refl) (λ p t. refl) (λ v. ((v.store, (v.kind, (v.declarators, tt))), refl))

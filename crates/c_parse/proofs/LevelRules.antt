@@ -9,7 +9,7 @@ use Rattle.c_tree.specs.declared.expr.CExpr.{CExpr}
 use Rattle.c_tree.specs.declared.statements.Stmt.TheVariants as stmts
 use Rattle.c_tree.specs.Classes.{word_of, class_at}
 use Rattle.c_tree.proofs.ClassLemmas.{is_fixed, knows, when_class}
-use Rattle.c_cursor.specs.Reading.{Parses, late}
+use Rattle.c_cursor.specs.Reading.{Parses}
 use Rattle.c_parse.specs.declared.front.Front.{Front}
 use Rattle.c_parse.specs.declared.front.Front.TheVariants as fronts
 use Rattle.c_parse.specs.declared.front.Nest.{Nest}
@@ -29,7 +29,7 @@ use Rattle.c_parse.proofs.IfRules.{in_if, if_made, if_rule, if_told_as, if_form,
 
 -- what reads the parts of a level is exact there
 abbrev pub Good : Type 0 → ℕ → Readers → Type 0
-Good live m r = Rule live late never an_expr (λ x. x) m r.value × Rule live late never a_stmt (λ x. x) m r.body
+Good live m r = Rule live never an_expr (λ x. x) m r.value × Rule live never a_stmt (λ x. x) m r.body
 
 abbrev pub some_readers : Readers
 some_readers = record { value = refuse; body = refuse }
@@ -41,49 +41,49 @@ dead_readers m = (dead (expr_viable m), dead (stmt_viable m))
 opens_with : (s : State Word) (n : Nest) → is_fixed (nest_class n) ≡ true → front_of (class_at (first s.rest)) ≡ fronts.Nested n → Some (word_of (nest_class n)) ≡ first s.rest
 opens_with s n fixed same = sym ((knows (nest_class n) fixed).says (first s.rest) (when_class (nest_class n) (first s.rest) (nest_back (class_at (first s.rest)) n same)))
 
-nested_exact : (d : ℕ) (inner : Inner) → Inside Good d inner → (s : State Word) (n : Nest) → front_of (class_at (first s.rest)) ≡ fronts.Nested n → Exact late a_stmt (λ x. x) d s (level inner (λ r. spec.nested_by r.value r.body n) s)
+nested_exact : (d : ℕ) (inner : Inner) → Inside Good d inner → (s : State Word) (n : Nest) → front_of (class_at (first s.rest)) ≡ fronts.Nested n → Exact a_stmt (λ x. x) d s (level inner (λ r. spec.nested_by r.value r.body n) s)
 nested_exact d inner h s nests.Block same =
-    one_deeper Good late in_block a_stmt (λ p. stmts.Block (block_made p)) block_stmt_form (λ x. x) (λ r. spec.nested_by r.value r.body nests.Block) (λ live m r g. mapped stmts.Block (block_rule r.value r.body g.0 g.1))
+    one_deeper Good in_block a_stmt (λ p. stmts.Block (block_made p)) block_stmt_form (λ x. x) (λ r. spec.nested_by r.value r.body nests.Block) (λ live m r g. mapped stmts.Block (block_rule r.value r.body g.0 g.1))
     some_readers dead_readers (stmt_viable 0) d inner h s (λ n x r i. opens_with s nests.Block refl same) (only_front (within in_block) (λ p. stmts.Block (block_made p)) block_stmt_told (fronts.Nested nests.Block) block_match (first s.rest) same)
 nested_exact d inner h s nests.If same =
-    one_deeper Good late in_if a_stmt (λ p. stmts.If (if_made p)) if_form (λ x. x) (λ r. spec.nested_by r.value r.body nests.If) (λ live m r g. mapped stmts.If (if_rule r.value r.body g.0 g.1))
+    one_deeper Good in_if a_stmt (λ p. stmts.If (if_made p)) if_form (λ x. x) (λ r. spec.nested_by r.value r.body nests.If) (λ live m r g. mapped stmts.If (if_rule r.value r.body g.0 g.1))
     some_readers dead_readers (stmt_viable 0) d inner h s (λ n x r i. opens_with s nests.If refl same) (only_front (within in_if) (λ p. stmts.If (if_made p)) if_told_as (fronts.Nested nests.If) if_match (first s.rest) same)
 nested_exact d inner h s nests.While same =
-    one_deeper Good late in_while a_stmt while_made while_form (λ x. x) (λ r. spec.nested_by r.value r.body nests.While) (λ live m r g. while_rule r.value r.body g.0 g.1)
+    one_deeper Good in_while a_stmt while_made while_form (λ x. x) (λ r. spec.nested_by r.value r.body nests.While) (λ live m r g. while_rule r.value r.body g.0 g.1)
     some_readers dead_readers (stmt_viable 0) d inner h s (λ n x r i. opens_with s nests.While refl same) (only_front (within in_while) while_made while_told (fronts.Nested nests.While) while_match (first s.rest) same)
 nested_exact d inner h s nests.Do same =
-    one_deeper Good late in_do a_stmt do_made do_form (λ x. x) (λ r. spec.nested_by r.value r.body nests.Do) (λ live m r g. do_rule r.value r.body g.0 g.1)
+    one_deeper Good in_do a_stmt do_made do_form (λ x. x) (λ r. spec.nested_by r.value r.body nests.Do) (λ live m r g. do_rule r.value r.body g.0 g.1)
     some_readers dead_readers (stmt_viable 0) d inner h s (λ n x r i. opens_with s nests.Do refl same) (only_front (within in_do) do_made do_told (fronts.Nested nests.Do) do_match (first s.rest) same)
 nested_exact d inner h s nests.For same =
-    one_deeper Good late in_for a_stmt for_made for_form (λ x. x) (λ r. spec.nested_by r.value r.body nests.For) (λ live m r g. for_rule r.value r.body g.0 g.1)
+    one_deeper Good in_for a_stmt for_made for_form (λ x. x) (λ r. spec.nested_by r.value r.body nests.For) (λ live m r g. for_rule r.value r.body g.0 g.1)
     some_readers dead_readers (stmt_viable 0) d inner h s (λ n x r i. opens_with s nests.For refl same) (only_front (within in_for) for_made for_told (fronts.Nested nests.For) for_match (first s.rest) same)
 
-module _ (d : ℕ) (e : Parses CExpr) (expression : Rule (Unit {0}) late never an_expr (λ x. x) d e) (inner : Inner) (h : Inside Good d inner) where
-  empty_unit : Rule (Unit {0}) late never an_empty (λ p. stmts.Empty p.0) d spec.empty
+module _ (d : ℕ) (e : Parses CExpr) (expression : Rule (Unit {0}) never an_expr (λ x. x) d e) (inner : Inner) (h : Inside Good d inner) where
+  empty_unit : Rule (Unit {0}) never an_empty (λ p. stmts.Empty p.0) d spec.empty
   empty_unit = empty_rule
 
-  break_unit : Rule (Unit {0}) late never a_break (λ p. stmts.Break p.0) d spec.break_stmt
+  break_unit : Rule (Unit {0}) never a_break (λ p. stmts.Break p.0) d spec.break_stmt
   break_unit = break_rule
 
-  continue_unit : Rule (Unit {0}) late never a_continue (λ p. stmts.Continue p.0) d spec.continue_stmt
+  continue_unit : Rule (Unit {0}) never a_continue (λ p. stmts.Continue p.0) d spec.continue_stmt
   continue_unit = continue_rule
 
-  stmt_exact : (s : State Word) (f : Front) → front_of (class_at (first s.rest)) ≡ f → Exact late a_stmt (λ x. x) d s (spec.stmt_by e inner f s)
+  stmt_exact : (s : State Word) (f : Front) → front_of (class_at (first s.rest)) ≡ f → Exact a_stmt (λ x. x) d s (spec.stmt_by e inner f s)
   stmt_exact s fronts.Empty same =
-      formed an_empty a_stmt (λ p. stmts.Empty p.0) empty_form late (λ x. x) d s (spec.empty s) (only_front an_empty (λ p. stmts.Empty p.0) empty_tells fronts.Empty empty_match (first s.rest) same) (empty_unit.exact tt s refl)
+      formed an_empty a_stmt (λ p. stmts.Empty p.0) empty_form (λ x. x) d s (spec.empty s) (only_front an_empty (λ p. stmts.Empty p.0) empty_tells fronts.Empty empty_match (first s.rest) same) (empty_unit.exact tt s refl)
   stmt_exact s fronts.Expr same =
-      formed an_expr_stmt a_stmt (λ p. stmts.Expr p.0) expr_form late (λ x. x) d s (spec.expr_stmt_by e s) (only_front an_expr_stmt (λ p. stmts.Expr p.0) expr_tells fronts.Expr expr_match (first s.rest) same)
+      formed an_expr_stmt a_stmt (λ p. stmts.Expr p.0) expr_form (λ x. x) d s (spec.expr_stmt_by e s) (only_front an_expr_stmt (λ p. stmts.Expr p.0) expr_tells fronts.Expr expr_match (first s.rest) same)
       ((expr_stmt_rule e expression).exact tt s refl)
   stmt_exact s fronts.Return same =
-      formed a_return a_stmt (λ p. stmts.Return p.0 p.1.0) return_form late (λ x. x) d s (spec.return_by e s) (only_front a_return (λ p. stmts.Return p.0 p.1.0) return_tells fronts.Return return_match (first s.rest) same)
+      formed a_return a_stmt (λ p. stmts.Return p.0 p.1.0) return_form (λ x. x) d s (spec.return_by e s) (only_front a_return (λ p. stmts.Return p.0 p.1.0) return_tells fronts.Return return_match (first s.rest) same)
       ((return_rule e expression).exact tt s refl)
   stmt_exact s fronts.Break same =
-      formed a_break a_stmt (λ p. stmts.Break p.0) break_form late (λ x. x) d s (spec.break_stmt s) (only_front a_break (λ p. stmts.Break p.0) break_tells fronts.Break break_match (first s.rest) same) (break_unit.exact tt s refl)
+      formed a_break a_stmt (λ p. stmts.Break p.0) break_form (λ x. x) d s (spec.break_stmt s) (only_front a_break (λ p. stmts.Break p.0) break_tells fronts.Break break_match (first s.rest) same) (break_unit.exact tt s refl)
   stmt_exact s fronts.Continue same =
-      formed a_continue a_stmt (λ p. stmts.Continue p.0) continue_form late (λ x. x) d s (spec.continue_stmt s) (only_front a_continue (λ p. stmts.Continue p.0) continue_tells fronts.Continue continue_match (first s.rest) same) (continue_unit.exact tt s refl)
+      formed a_continue a_stmt (λ p. stmts.Continue p.0) continue_form (λ x. x) d s (spec.continue_stmt s) (only_front a_continue (λ p. stmts.Continue p.0) continue_tells fronts.Continue continue_match (first s.rest) same) (continue_unit.exact tt s refl)
   stmt_exact s (fronts.Nested n) same = nested_exact d inner h s n same
 
-  stmt_in_rule : Rule (Unit {0}) late never a_stmt (λ x. x) d (spec.stmt_in e inner)
+  stmt_in_rule : Rule (Unit {0}) never a_stmt (λ x. x) d (spec.stmt_in e inner)
   unfolding spec.stmt_in
   stmt_in_rule = record {
     exact = λ l s b. stmt_exact s (front_of (class_at (first s.rest))) refl;
@@ -96,5 +96,5 @@ pub inside_good : (d : ℕ) → Inside Good d (spec.inside d)
 inside_good zero = refl
 inside_good (suc d) = (d, omega arith, (expr_rule d (λ t go. refl), stmt_in_rule d (expr d) (expr_rule d (λ t go. refl)) (spec.inside d) (inside_good d)))
 
-pub stmt_rule : (d : ℕ) → Rule (Unit {0}) late never a_stmt (λ x. x) d (spec.stmt d)
+pub stmt_rule : (d : ℕ) → Rule (Unit {0}) never a_stmt (λ x. x) d (spec.stmt d)
 stmt_rule d = stmt_in_rule d (expr d) (expr_rule d (λ t go. refl)) (spec.inside d) (inside_good d)

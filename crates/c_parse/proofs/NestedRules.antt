@@ -123,17 +123,17 @@ do_made p = stmts.Do p.0 p.1.0 p.1.1.0 p.1.1.1.0
 abbrev pub for_made : ℕ × (Start × (Option CExpr × (Option CExpr × Stmt))) → Stmt
 for_made p = stmts.For p.0 p.1.0 p.1.1.0 p.1.1.1.0 p.1.1.1.1
 
-module _ {live : Type 0} {late : Word → Bool} {d : ℕ} (e : Parses CExpr) (s : Parses Stmt) (expr_rule : Rule live late never an_expr (λ x. x) d e) (stmt_rule : Rule live late never a_stmt (λ x. x) d s) where
-  part_rule : Rule live late never a_part (λ x. x) d (spec.part_by e s)
+module _ {live : Type 0} {d : ℕ} (e : Parses CExpr) (s : Parses Stmt) (expr_rule : Rule live never an_expr (λ x. x) d e) (stmt_rule : Rule live never a_stmt (λ x. x) d s) where
+  part_rule : Rule live never a_part (λ x. x) d (spec.part_by e s)
   part_rule =
       told_as a_part part_made (λ x. x) part_told_as part_goes part_all
       (choice begins_variables variables_starts (starts_off begins_stmt begins_variables a_stmt stmt_starts stmt_no_variables)
       (mapped parts.Variables (variables_rule e expr_rule (λ t go. refl))) (mapped parts.Stmt stmt_rule))
 
-  parts_rule : Rule live late never some_parts (λ xs. xs) d (spec.parts_by e s)
+  parts_rule : Rule live never some_parts (λ xs. xs) d (spec.parts_by e s)
   parts_rule = many begins_part never parts_repeat (λ t go. refl) [] part_rule
 
-  pub block_rule : Rule live late never in_block block_made d (spec.block_by e s)
+  pub block_rule : Rule live never in_block block_made d (spec.block_by e s)
   unfolding spec.block_by
   block_rule =
       numbered (λ k p. block k p.0 p.1.0) (λ k t. and_then (expect (is classes.OpenBrace) t) (λ _ t. and_then (spec.parts_by e s t) (λ ps t. and_then (expect (is classes.CloseBrace) t) (λ _ t2. _))))
@@ -142,14 +142,14 @@ module _ {live : Type 0} {late : Word → Bool} {d : ℕ} (e : Parses CExpr) (s 
       (λ ps. numbered (λ j _. block k ps j) (λ j t. and_then (expect (is classes.CloseBrace) t) (λ _ t2. _))
       (λ j. last (is classes.CloseBrace) (word_of classes.CloseBrace) (block k ps j) (knows classes.CloseBrace refl) (parts_close ps)))))
 
-  pub while_rule : Rule live late never in_while while_made d (spec.while_by e s)
+  pub while_rule : Rule live never in_while while_made d (spec.while_by e s)
   unfolding spec.while_by
   while_rule =
       numbered (λ k p. stmts.While k p.0 p.1) (λ k t. and_then (expect (is classes.While) t) (λ _ t. and_then (spec.condition_by e t) (λ x t. and_then (s t) (λ b t. _))))
       (λ k. token_then (is classes.While) (word_of classes.While) (knows classes.While refl) refl
       (seq (λ x. x) (λ x b. stmts.While k x b) (λ x t. and_then (s t) (λ b t. _)) (condition_rule e expr_rule refl) (λ x. mapped (λ b. stmts.While k x b) stmt_rule)))
 
-  pub do_rule : Rule live late never in_do do_made d (spec.do_by e s)
+  pub do_rule : Rule live never in_do do_made d (spec.do_by e s)
   unfolding spec.do_by
   do_rule =
       numbered (λ k p. stmts.Do k p.0 p.1.0 p.1.1.0)
@@ -163,7 +163,7 @@ module _ {live : Type 0} {late : Word → Bool} {d : ℕ} (e : Parses CExpr) (s 
       (seq (λ x. x) (λ x _. stmts.Do k b j x) (λ x t. and_then (expect (is classes.Semicolon) t) (λ _ t. Ok (stmts.Do k b j x, t))) (condition_rule e expr_rule refl)
       (λ x. last (is classes.Semicolon) (word_of classes.Semicolon) (stmts.Do k b j x) (knows classes.Semicolon refl) refl))))))
 
-  pub for_rule : Rule live late never in_for for_made d (spec.for_by e s)
+  pub for_rule : Rule live never in_for for_made d (spec.for_by e s)
   unfolding spec.for_by
   for_rule =
       numbered (λ k p. stmts.For k p.0 p.1.0 p.1.1.0 p.1.1.1)

@@ -52,7 +52,7 @@ maybe_size_close : (o : Option Size) → maybe_size.grabs o (Some (word_of class
 maybe_size_close None = or_both _ _ size_no_close refl
 maybe_size_close (Some x) = size_close x
 
-param_array_rule : {live : Type 0} {late : Word → Bool} {d : ℕ} → Rule live late never a_param_array (λ x. x) d spec.param_array
+param_array_rule : {live : Type 0} {d : ℕ} → Rule live never a_param_array (λ x. x) d spec.param_array
 unfolding spec.param_array
 param_array_rule =
     told_as a_param_array (λ (p : ℕ × (Option Size × Unit {0})). let a : ParamArray = record { token = p.0; size = p.1.0 } in a) (λ x. x) (λ p. refl) (λ p t. refl) (λ a. ((a.token, (a.size, tt)), refl))
@@ -83,7 +83,7 @@ param_apart a type star const name bracket p =
 abbrev param_of : CType × (List Star × (Option Name × Option ParamArray)) → Param
 param_of p = record { kind = p.0; stars = p.1.0; name = p.1.1.0; array = p.1.1.1 }
 
-param_rule : {live : Type 0} {late : Word → Bool} {before : Option Word → Bool} {d : ℕ} → Apart begins_type before → Rule live late before a_param (λ x. x) d spec.param
+param_rule : {live : Type 0} {before : Option Word → Bool} {d : ℕ} → Apart begins_type before → Rule live before a_param (λ x. x) d spec.param
 unfolding spec.param
 param_rule apart =
     told_as a_param param_of (λ x. x) (λ p. refl) (λ p t. refl) (λ p. ((p.kind, (p.stars, (p.name, p.array))), refl))
@@ -119,12 +119,12 @@ param_ends p = param_apart (λ t. not (is_there t)) nothing_there (no_class_ther
 
 param_starts : Starts begins_type a_param
 param_starts =
-    let rule : Rule (Unit {0}) (λ _. false) (λ t. not (begins_type t)) a_param (λ x. x) 0 spec.param = param_rule (but begins_type) in
+    let rule : Rule (Unit {0}) (λ t. not (begins_type t)) a_param (λ x. x) 0 spec.param = param_rule (but begins_type) in
     starts_of begins_type some_stop param_ends rule
 
 -- ---- "void" | (param,+)?
 
-listed_rule : {live : Type 0} {late : Word → Bool} {d : ℕ} → Rule live late never some_params (λ xs. xs) d (listed begins_type (is classes.Comma) spec.param)
+listed_rule : {live : Type 0} {d : ℕ} → Rule live never some_params (λ xs. xs) d (listed begins_type (is classes.Comma) spec.param)
 listed_rule = lists begins_type (is classes.Comma) never comma (knows classes.Comma refl) (no_class classes.Comma) (λ p. param_comma p _ (knows classes.Comma refl).yes) param_starts (λ t e. refl) (param_rule (λ t e. refl))
 
 and_left : (a b : Bool) → (a && b) ≡ true → a ≡ true
@@ -207,7 +207,7 @@ params_all n (params.Void k) h = (void_param k ∷ [], (h.0, (refl, tt)), refl)
 params_all n (params.List []) h = ([], tt, refl)
 params_all n (params.List (p ∷ ps)) h = (p ∷ ps, h.1, not_only p ps (is_only_void (p ∷ ps)) refl h.0)
 
-pub params_rule : {live : Type 0} {late : Word → Bool} {d : ℕ} → Rule live late never the_params (λ x. x) d spec.parameters
+pub params_rule : {live : Type 0} {d : ℕ} → Rule live never the_params (λ x. x) d spec.parameters
 params_rule = shaped the_params spec.params_of (λ x. x) params_form params_all (mapped spec.params_of listed_rule)
 
 -- the parenthesis behind them

@@ -93,14 +93,14 @@ no_start = or_both _ _ refl (or_both _ _ (no_class classes.Const) refl)
 pub variables_starts : Starts begins_variables some_variables
 variables_starts =
     let e : Parses CExpr = refuse in
-    let rule : Rule ⊥ (λ _. false) (λ t. _) some_variables (λ x. x) 0 (variables_by e) = variables_rule e (dead (expr_viable 0)) (but begins_variables) in
+    let rule : Rule ⊥ (λ t. _) some_variables (λ x. x) 0 (variables_by e) = variables_rule e (dead (expr_viable 0)) (but begins_variables) in
     starts_of begins_variables no_start (λ x. refl) rule
 
 semicolon_no_variables : Apart (is classes.Semicolon) no_variables
 semicolon_no_variables = apart_or (is classes.Semicolon) begins_variables never (variables_off classes.Semicolon refl) (λ t e. refl)
 
-module _ {live : Type 0} {late : Word → Bool} {d : ℕ} (e : Parses CExpr) (expr_rule : Rule live late never an_expr (λ x. x) d e) where
-  pub condition_rule : {before : Option Word → Bool} → before (Some (word_of classes.OpenParen)) ≡ false → Rule live late before a_condition (λ x. x) d (spec.condition_by e)
+module _ {live : Type 0} {d : ℕ} (e : Parses CExpr) (expr_rule : Rule live never an_expr (λ x. x) d e) where
+  pub condition_rule : {before : Option Word → Bool} → before (Some (word_of classes.OpenParen)) ≡ false → Rule live before a_condition (λ x. x) d (spec.condition_by e)
   unfolding spec.condition_by
   condition_rule free =
       told_as a_condition (λ (p : CExpr × Unit {0}). p.0) (λ x. x) (λ p. refl) (λ p t. refl) (λ x. ((x, tt), refl))
@@ -108,16 +108,16 @@ module _ {live : Type 0} {late : Word → Bool} {d : ℕ} (e : Parses CExpr) (ex
       (seq (λ x. x) (λ x _. x) (λ x s. and_then (expect (is classes.CloseParen) s) (λ _ s. Ok (x, s))) expr_rule
       (λ x. last (is classes.CloseParen) (word_of classes.CloseParen) x (knows classes.CloseParen refl) (stops_at classes.CloseParen refl (an_expr.grabs x) (expr_apart classes.CloseParen refl refl x)))))
 
-  pub optional_rule : (before : Option Word → Bool) → Apart begins_expr before → Rule live late before (maybe_expr before) (λ o. o) d (spec.optional_by e)
+  pub optional_rule : (before : Option Word → Bool) → Apart begins_expr before → Rule live before (maybe_expr before) (λ o. o) d (spec.optional_by e)
   optional_rule before apart = perhaps begins_expr before expr_starts apart expr_rule
 
-  start_expr_rule : Rule live late no_variables start_parts (λ p. starts.Expr p.0) d (spec.start_expr_by e)
+  start_expr_rule : Rule live no_variables start_parts (λ p. starts.Expr p.0) d (spec.start_expr_by e)
   unfolding spec.start_expr_by
   start_expr_rule =
       seq (λ o. o) (λ o _. starts.Expr o) (λ o s. and_then (expect (is classes.Semicolon) s) (λ _ s. _)) (optional_rule no_variables (apart_or begins_expr begins_variables never expr_no_variables (λ t go. refl)))
       (λ o. last (is classes.Semicolon) (word_of classes.Semicolon) (starts.Expr o) (knows classes.Semicolon refl) (maybe_semicolon no_variables semicolon_no_variables o))
 
-  pub start_rule : Rule live late never a_start (λ x. x) d (spec.start_by e)
+  pub start_rule : Rule live never a_start (λ x. x) d (spec.start_by e)
   start_rule =
       told_as a_start start_made (λ x. x) start_tells start_goes start_all
       (choice_past begins_variables never some_variables start_parts variables_starts (mapped starts.Variables (variables_rule e expr_rule (λ t go. refl))) start_expr_rule)
@@ -139,34 +139,34 @@ an_expr_stmt = pair an_expr (λ _. one (word_of classes.Semicolon))
 abbrev pub a_return : Kind Word (ℕ × (Option CExpr × Unit {0}))
 a_return = pair (place never) (λ _. behind (word_of classes.Return) (pair (maybe_expr never) (λ _. one (word_of classes.Semicolon))))
 
-pub empty_rule : {live : Type 0} {late : Word → Bool} {d : ℕ} → Rule live late never an_empty (λ p. stmts.Empty p.0) d spec.empty
+pub empty_rule : {live : Type 0} {d : ℕ} → Rule live never an_empty (λ p. stmts.Empty p.0) d spec.empty
 unfolding spec.empty
 empty_rule =
     numbered (λ k _. stmts.Empty k) (λ k s. and_then (expect (is classes.Semicolon) s) (λ _ s. _))
     (λ k. last (is classes.Semicolon) (word_of classes.Semicolon) (stmts.Empty k) (knows classes.Semicolon refl) refl)
 
-pub break_rule : {live : Type 0} {late : Word → Bool} {d : ℕ} → Rule live late never a_break (λ p. stmts.Break p.0) d spec.break_stmt
+pub break_rule : {live : Type 0} {d : ℕ} → Rule live never a_break (λ p. stmts.Break p.0) d spec.break_stmt
 unfolding spec.break_stmt
 break_rule =
     numbered (λ k _. stmts.Break k) (λ k s. and_then (expect (is classes.Break) s) (λ _ s. and_then (expect (is classes.Semicolon) s) (λ _ s. _)))
     (λ k. token_then (is classes.Break) (word_of classes.Break) (knows classes.Break refl) refl
     (last (is classes.Semicolon) (word_of classes.Semicolon) (stmts.Break k) (knows classes.Semicolon refl) refl))
 
-pub continue_rule : {live : Type 0} {late : Word → Bool} {d : ℕ} → Rule live late never a_continue (λ p. stmts.Continue p.0) d spec.continue_stmt
+pub continue_rule : {live : Type 0} {d : ℕ} → Rule live never a_continue (λ p. stmts.Continue p.0) d spec.continue_stmt
 unfolding spec.continue_stmt
 continue_rule =
     numbered (λ k _. stmts.Continue k) (λ k s. and_then (expect (is classes.Continue) s) (λ _ s. and_then (expect (is classes.Semicolon) s) (λ _ s. _)))
     (λ k. token_then (is classes.Continue) (word_of classes.Continue) (knows classes.Continue refl) refl
     (last (is classes.Semicolon) (word_of classes.Semicolon) (stmts.Continue k) (knows classes.Semicolon refl) refl))
 
-module _ {live : Type 0} {late : Word → Bool} {d : ℕ} (e : Parses CExpr) (expr_rule : Rule live late never an_expr (λ x. x) d e) where
-  pub expr_stmt_rule : Rule live late never an_expr_stmt (λ p. stmts.Expr p.0) d (spec.expr_stmt_by e)
+module _ {live : Type 0} {d : ℕ} (e : Parses CExpr) (expr_rule : Rule live never an_expr (λ x. x) d e) where
+  pub expr_stmt_rule : Rule live never an_expr_stmt (λ p. stmts.Expr p.0) d (spec.expr_stmt_by e)
   unfolding spec.expr_stmt_by
   expr_stmt_rule =
       seq (λ x. x) (λ x _. stmts.Expr x) (λ x s. and_then (expect (is classes.Semicolon) s) (λ _ s. _)) expr_rule
       (λ x. last (is classes.Semicolon) (word_of classes.Semicolon) (stmts.Expr x) (knows classes.Semicolon refl) (stops_at classes.Semicolon refl (an_expr.grabs x) (expr_apart classes.Semicolon refl refl x)))
 
-  pub return_rule : Rule live late never a_return (λ p. stmts.Return p.0 p.1.0) d (spec.return_by e)
+  pub return_rule : Rule live never a_return (λ p. stmts.Return p.0 p.1.0) d (spec.return_by e)
   unfolding spec.return_by
   return_rule =
       numbered (λ k p. stmts.Return k p.0) (λ k s. and_then (expect (is classes.Return) s) (λ _ s. and_then (spec.optional_by e s) (λ o s. and_then (expect (is classes.Semicolon) s) (λ _ s. _))))

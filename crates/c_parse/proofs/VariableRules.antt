@@ -63,7 +63,7 @@ store_there k = ap is_there (store_reader.yes k refl)
 pub store_starts : Starts begins_store a_store
 store_starts n x r h = store_there x.kind
 
-store_rule : {live : Type 0} {late : Word → Bool} {before : Option Word → Bool} {d : ℕ} → Apart begins_store before → Rule live late before a_store (λ x. x) d spec.store
+store_rule : {live : Type 0} {before : Option Word → Bool} {d : ℕ} → Apart begins_store before → Rule live before a_store (λ x. x) d spec.store
 unfolding spec.store
 store_rule {before = before} apart =
     told_as a_store (λ (p : ℕ × StoreKind). let s : Store = record { token = p.0; kind = p.1 } in s) (λ x. x) (λ p. refl) (λ p t. refl) (λ s. ((s.token, s.kind), refl))
@@ -73,7 +73,7 @@ store_rule {before = before} apart =
 abbrev pub maybe_store : (Option Word → Bool) → Kind Word (Option Store)
 maybe_store before = option begins_store a_store before
 
-pub stored_rule : {live : Type 0} {late : Word → Bool} {before : Option Word → Bool} {d : ℕ} → Apart begins_store before → Rule live late before (maybe_store before) (λ o. o) d spec.stored
+pub stored_rule : {live : Type 0} {before : Option Word → Bool} {d : ℕ} → Apart begins_store before → Rule live before (maybe_store before) (λ o. o) d spec.stored
 stored_rule {before = before} apart = perhaps begins_store before store_starts apart (store_rule (λ t e. refl))
 
 -- ---- sizes
@@ -87,7 +87,7 @@ an_argument = record { told = argument_told; grabs = λ _ _. false }
 argument_starts : Starts (is classes.OpenParen) an_argument
 argument_starts n x r h = (knows classes.OpenParen refl).yes
 
-argument_rule : {live : Type 0} {late : Word → Bool} {d : ℕ} → Rule live late never an_argument (λ x. x) d spec.argument
+argument_rule : {live : Type 0} {d : ℕ} → Rule live never an_argument (λ x. x) d spec.argument
 unfolding spec.argument
 argument_rule =
     told_as an_argument (λ (p : ℕ × (Number × Unit {0})). let q : ℕ × Number = (p.0, p.1.0) in q) (λ x. x) (λ p. refl) (λ p t. refl) (λ q. ((q.0, (q.1, tt)), refl))
@@ -102,7 +102,7 @@ maybe_argument = option (is classes.OpenParen) an_argument (λ t. false)
 abbrev a_named_size : Kind Word (Name × Option (ℕ × Number))
 a_named_size = pair a_name (λ _. maybe_argument)
 
-named_size_rule : {live : Type 0} {late : Word → Bool} {before : Option Word → Bool} {d : ℕ} → Apart (is classes.Name) before → Rule live late before a_named_size (λ p. spec.size_of p.0 p.1) d spec.named_size
+named_size_rule : {live : Type 0} {before : Option Word → Bool} {d : ℕ} → Apart (is classes.Name) before → Rule live before a_named_size (λ p. spec.size_of p.0 p.1) d spec.named_size
 unfolding spec.named_size
 named_size_rule apart =
     seq (λ n. n) (λ n o. spec.size_of n o) (λ n s. and_then (optional (is classes.OpenParen) spec.argument s) (λ o s. _)) (name_rule apart)
@@ -140,10 +140,10 @@ name_within t e = in_right (is classes.Number t) (is classes.Name t) e
 
 named_off : Off (is classes.Number) a_named_size
 named_off n x r h g =
-    let rule : Rule (Unit {0}) (λ _. false) (is classes.Number) a_named_size (λ p. spec.size_of p.0 p.1) 0 spec.named_size = named_size_rule (apart_of classes.Name classes.Number refl) in
+    let rule : Rule (Unit {0}) (is classes.Number) a_named_size (λ p. spec.size_of p.0 p.1) 0 spec.named_size = named_size_rule (apart_of classes.Name classes.Number refl) in
     rule.keeps n x r h g
 
-pub size_rule : {live : Type 0} {late : Word → Bool} {before : Option Word → Bool} {d : ℕ} → Apart begins_size before → Rule live late before a_size (λ x. x) d spec.size
+pub size_rule : {live : Type 0} {before : Option Word → Bool} {d : ℕ} → Apart begins_size before → Rule live before a_size (λ x. x) d spec.size
 size_rule {before = before} apart =
     told_as a_size size_made (λ x. x) size_tells size_goes size_all
     (choice (is classes.Number) number_starts named_off
@@ -160,7 +160,7 @@ no_size = or_both _ _ (no_class classes.Number) (no_class classes.Name)
 
 pub size_starts : Starts begins_size a_size
 size_starts =
-    let rule : Rule (Unit {0}) (λ _. false) (λ t. _) a_size (λ x. x) 0 spec.size = size_rule (but begins_size) in
+    let rule : Rule (Unit {0}) (λ t. _) a_size (λ x. x) 0 spec.size = size_rule (but begins_size) in
     starts_of begins_size no_size (λ x. size_ends x None (no_class classes.OpenParen)) rule
 
 pub size_close : (x : Size) → size_grabs x (Some (word_of classes.CloseBracket)) ≡ false
@@ -171,7 +171,7 @@ size_close x = size_ends x _ (word_is_not classes.OpenParen classes.CloseBracket
 pub array_starts : Starts (is classes.OpenBracket) an_array
 array_starts n x r h = (knows classes.OpenBracket refl).yes
 
-pub array_rule : {live : Type 0} {late : Word → Bool} {d : ℕ} → Rule live late never an_array (λ x. x) d spec.array
+pub array_rule : {live : Type 0} {d : ℕ} → Rule live never an_array (λ x. x) d spec.array
 unfolding spec.array
 array_rule =
     told_as an_array (λ (p : ℕ × (Size × Unit {0})). let a : Array = record { token = p.0; size = p.1.0 } in a) (λ x. x) (λ p. refl) (λ p t. refl) (λ a. ((a.token, (a.size, tt)), refl))

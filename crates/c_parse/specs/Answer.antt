@@ -1,5 +1,5 @@
 -- What the parser answers to the words of a file. No parser stands here.
-use Rattle.std.specs.Prelude.{ℕ, List, Result, Ok, Err}
+use Rattle.std.specs.Prelude.{◌≡◌, ◌≢◌, ℕ, List, Result, Ok, Err}
 use Rattle.dpi_grammar.specs.Faults.{IsParsed, IsRefused, IsTooDeep}
 use Rattle.dpi_lex.specs.Words.{Word}
 use Rattle.c_tree.specs.declared.file.CFile.{CFile}
@@ -18,3 +18,7 @@ IsAnswer ws (Ok file) = IsParsed file_told max_levels ws file
 IsAnswer ws (Err (Syntax token)) = IsRefused file_told max_levels ws token
 IsAnswer ws (Err (TooDeep token)) = IsTooDeep file_told late max_levels ws token
 IsAnswer ws (Err NoMemory) = Unit {0}
+
+-- two answers to the same words are the same answer, unless memory ran out
+abbrev pub AnswerIsOne : Type 0
+AnswerIsOne = (ws : List Word) (a b : Result CFile ParseFault) → a ≢ Err NoMemory → b ≢ Err NoMemory → IsAnswer ws a → IsAnswer ws b → a ≡ b

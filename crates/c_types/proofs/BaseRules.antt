@@ -105,38 +105,38 @@ no_more : (r : BaseRest) (t : Option Word) → most r ≤ 0 → (o : Option (Bas
 no_more r t few None e = e
 no_more r t few (Some p) e = let less = fewer r p.1 p.0 (next_says r t p e).1 in absurd (omega (arith, few, less))
 
-module _ (late : Word → Bool) (d : ℕ) where
+module _ (d : ℕ) where
   abbrev From : ℕ → Type 0
-  From n = (r : BaseRest) → most r ≤ n → (found : List BaseWord) (s : State Word) → Exact late (rest r) (λ ws. found ++ ws) d s (base_from n r found s)
+  From n = (r : BaseRest) → most r ≤ n → (found : List BaseWord) (s : State Word) → Exact (rest r) (λ ws. found ++ ws) d s (base_from n r found s)
 
   ended_by : (r : BaseRest) (found : List BaseWord) (s : State Word) (b : Bool) → may_end r ≡ b → word_next r (first s.rest) ≡ None
-      → Exact late (rest r) (λ ws. found ++ ws) d s (if b then Ok (found, s) else Err (Syntax s.place))
+      → Exact (rest r) (λ ws. found ++ ws) d s (if b then Ok (found, s) else Err (Syntax s.place))
   ended_by r found s true e none =
-      formed (absent (λ t. is_there (word_next r t))) (rest r) (λ _. []) (end_form r e) late (λ ws. found ++ ws) d s _ (end_only r _ none)
-      (remade_exact late (absent (λ t. is_there (word_next r t))) (λ _. found) (λ _. found ++ []) d s _ (λ _. append-nil found)
-      (absent_exact late (λ t. is_there (word_next r t)) found d s (ap is_there none)))
-  ended_by r found s false e none = none_begins late (rest r) (λ ws. found ++ ws) d s (rest_closes r d s.place) (λ n ws rs is g same. none_ends r e (first s.rest) none n ws rs is same)
+      formed (absent (λ t. is_there (word_next r t))) (rest r) (λ _. []) (end_form r e) (λ ws. found ++ ws) d s _ (end_only r _ none)
+      (remade_exact (absent (λ t. is_there (word_next r t))) (λ _. found) (λ _. found ++ []) d s _ (λ _. append-nil found)
+      (absent_exact (λ t. is_there (word_next r t)) found d s (ap is_there none)))
+  ended_by r found s false e none = none_begins (rest r) (λ ws. found ++ ws) d s (rest_closes r d s.place) (λ n ws rs is g same. none_ends r e (first s.rest) none n ws rs is same)
 
-  ended : (r : BaseRest) (found : List BaseWord) (s : State Word) → word_next r (first s.rest) ≡ None → Exact late (rest r) (λ ws. found ++ ws) d s (base_end r found s)
+  ended : (r : BaseRest) (found : List BaseWord) (s : State Word) → word_next r (first s.rest) ≡ None → Exact (rest r) (λ ws. found ++ ws) d s (base_end r found s)
   ended r found s none = ended_by r found s (may_end r) refl none
 
   -- the token of a word
-  taken : (w : BaseWord) (s : State Word) → first s.rest ≡ Some (base_token w) → Exact late (one (base_token w)) (λ u. u) d s (Ok (tt, step s))
+  taken : (w : BaseWord) (s : State Word) → first s.rest ≡ Some (base_token w) → Exact (one (base_token w)) (λ u. u) d s (Ok (tt, step s))
   taken w s there =
       let known = base_knows w in
       let read : expect (is (base_class w)) s ≡ Ok (tt, step s) = ap (λ o. skip_if (is (base_class w) o) s) there ∙ ap (λ b. skip_if b s) known.yes in
-      let rule : Rule (Unit {0}) late never (one (base_token w)) (λ u. u) d (expect (is (base_class w))) = expected (is (base_class w)) (base_token w) known refl in
-      subst (λ o. Exact late (one (base_token w)) (λ u. u) d s o) read (rule.exact tt s refl)
+      let rule : Rule (Unit {0}) never (one (base_token w)) (λ u. u) d (expect (is (base_class w))) = expected (is (base_class w)) (base_token w) known refl in
+      subst (λ o. Exact (one (base_token w)) (λ u. u) d s o) read (rule.exact tt s refl)
 
   turned : (n : ℕ) → From n → (r : BaseRest) → most r ≤ suc n → (found : List BaseWord) (s : State Word) (o : Option (BaseWord × BaseRest)) → word_next r (first s.rest) ≡ o
-      → Exact late (rest r) (λ ws. found ++ ws) d s (base_turn (base_from n) r found o s)
+      → Exact (rest r) (λ ws. found ++ ws) d s (base_turn (base_from n) r found o s)
   turned n more r few found s None e = ended r found s e
   turned n more r few found s (Some p) e =
       let h = next_says r (first s.rest) p e in
       let less = fewer r p.1 p.0 h.1 in
-      formed (pair (one (base_token p.0)) (λ _. rest p.1)) (rest r) (λ q. p.0 ∷ q.1) (more_form r p.1 p.0 h.1) late (λ ws. found ++ ws) d s _ (more_only r p.1 p.0 _ e)
-      (remade_exact late _ (λ q. (found ++ p.0 ∷ []) ++ q.1) _ d s _ (λ q. sym (append_assoc found (p.0 ∷ []) q.1))
-      (seq_exact (one (base_token p.0)) (λ _. rest p.1) (λ x m ws rs is g. refl) late (λ u. u) (λ _ ws. (found ++ p.0 ∷ []) ++ ws) d s (Ok (tt, step s)) (λ _. base_from n p.1 (found ++ p.0 ∷ []))
+      formed (pair (one (base_token p.0)) (λ _. rest p.1)) (rest r) (λ q. p.0 ∷ q.1) (more_form r p.1 p.0 h.1) (λ ws. found ++ ws) d s _ (more_only r p.1 p.0 _ e)
+      (remade_exact _ (λ q. (found ++ p.0 ∷ []) ++ q.1) _ d s _ (λ q. sym (append_assoc found (p.0 ∷ []) q.1))
+      (seq_exact (one (base_token p.0)) (λ _. rest p.1) (λ x m ws rs is g. refl) (λ u. u) (λ _ ws. (found ++ p.0 ∷ []) ++ ws) d s (Ok (tt, step s)) (λ _. base_from n p.1 (found ++ p.0 ∷ []))
       (λ x m. rest_closes p.1 d m) (taken p.0 s h.0)
       (λ x s1 f. more p.1 (omega (arith, few, less)) (found ++ p.0 ∷ []) s1)))
 
@@ -150,9 +150,9 @@ pub base_starts : (n : ℕ) (ws : List BaseWord) (r : List Word) → Is a_base n
 base_starts n [] r h = absurd (cc)
 base_starts n (w ∷ ws) r h = ap is_there (base_yes w)
 
-pub base_rule : {live : Type 0} {late : Word → Bool} {before : Option Word → Bool} {d : ℕ} → Apart begins_base before → Rule live late before a_base (λ ws. ws) d base
-base_rule {late = late} {before = before} {d = d} apart = record {
-  exact = λ l s b. from late d 4 rests.Whole (omega arith) [] s;
+pub base_rule : {live : Type 0} {before : Option Word → Bool} {d : ℕ} → Apart begins_base before → Rule live before a_base (λ ws. ws) d base
+base_rule {before = before} {d = d} apart = record {
+  exact = λ l s b. from d 4 rests.Whole (omega arith) [] s;
   closes = λ n. rest_closes rests.Whole d n;
   keeps = λ n ws r is g. apart _ (base_starts n ws r is);
 }

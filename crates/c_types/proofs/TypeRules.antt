@@ -36,7 +36,7 @@ constant_starts n x r h = (knows classes.Const refl).yes
 constants_repeat : Repeats (is classes.Const) a_constant
 constants_repeat = record { starts = constant_starts; next = λ x t e. refl; at_end = no_class classes.Const }
 
-constant_rule : {live : Type 0} {late : Word → Bool} {before : Option Word → Bool} {d : ℕ} → Apart (is classes.Const) before → Rule live late before a_constant (λ x. x) d spec.constant
+constant_rule : {live : Type 0} {before : Option Word → Bool} {d : ℕ} → Apart (is classes.Const) before → Rule live before a_constant (λ x. x) d spec.constant
 unfolding spec.constant
 constant_rule apart =
     told_as a_constant (λ (p : ℕ × Unit {0}). p.0) (λ x. x) (λ p. refl) (λ p t. refl) (λ k. ((k, tt), refl))
@@ -47,7 +47,7 @@ constant_rule apart =
 abbrev pub some_constants : (Option Word → Bool) → Kind Word (List ℕ)
 some_constants before = list (is classes.Const) a_constant before
 
-pub constants_rule : {live : Type 0} {late : Word → Bool} {before : Option Word → Bool} {d : ℕ} → Apart (is classes.Const) before → Rule live late before (some_constants before) (λ ks. ks) d spec.constants
+pub constants_rule : {live : Type 0} {before : Option Word → Bool} {d : ℕ} → Apart (is classes.Const) before → Rule live before (some_constants before) (λ ks. ks) d spec.constants
 constants_rule {before = before} apart = many (is classes.Const) before constants_repeat apart [] (constant_rule (λ t e. refl))
 
 -- ---- types
@@ -79,7 +79,7 @@ behind_type a apart x = behind_constants a (a_base.grabs x.base) (apart_within a
 abbrev type_of : ℕ × (List ℕ × (List BaseWord × List ℕ)) → CType
 type_of p = record { token = p.0; before = p.1.0; base = p.1.1.0; behind = p.1.1.1 }
 
-pub type_rule : {live : Type 0} {late : Word → Bool} {before : Option Word → Bool} {d : ℕ} → Apart begins_type before → Rule live late before a_type (λ t. t) d spec.type_name
+pub type_rule : {live : Type 0} {before : Option Word → Bool} {d : ℕ} → Apart begins_type before → Rule live before a_type (λ t. t) d spec.type_name
 unfolding spec.type_name
 type_rule {before = before} apart =
     told_as a_type type_of (λ t. t) (λ p. refl) (λ p t. refl) (λ t. ((t.token, (t.before, (t.base, t.behind))), refl))
@@ -100,7 +100,7 @@ type_ends x = behind_type (λ t. not (is_there t)) no_token x None refl
 
 pub type_starts : Starts begins_type a_type
 type_starts =
-    let rule : Rule (Unit {0}) (λ _. false) (λ t. not (begins_type t)) a_type (λ t. t) 0 spec.type_name = type_rule (but begins_type) in
+    let rule : Rule (Unit {0}) (λ t. not (begins_type t)) a_type (λ t. t) 0 spec.type_name = type_rule (but begins_type) in
     starts_of begins_type (no_token None refl) type_ends rule
 
 -- ---- stars
@@ -120,7 +120,7 @@ behind_star a apart x = behind_constants a never apart (λ t e. refl) x.constant
 stars_repeat : Repeats (is classes.Star) a_star
 stars_repeat = record { starts = star_starts; next = behind_star (is classes.Star) (apart_of classes.Star classes.Const refl); at_end = no_class classes.Star }
 
-star_rule : {live : Type 0} {late : Word → Bool} {before : Option Word → Bool} {d : ℕ} → Apart (is classes.Star) before → Rule live late before a_star (λ x. x) d spec.star
+star_rule : {live : Type 0} {before : Option Word → Bool} {d : ℕ} → Apart (is classes.Star) before → Rule live before a_star (λ x. x) d spec.star
 unfolding spec.star
 star_rule {before = before} apart =
     told_as a_star (λ (p : ℕ × List ℕ). let x : Star = record { token = p.0; constants = p.1 } in x) (λ x. x) (λ p. refl) (λ p t. refl) (λ x. ((x.token, x.constants), refl))
@@ -128,7 +128,7 @@ star_rule {before = before} apart =
     (λ k. token_then (is classes.Star) (word_of classes.Star) (knows classes.Star refl) (apart _ (knows classes.Star refl).yes)
     (mapped (λ c. let x : Star = record { token = k; constants = c } in x) (constants_rule (λ t e. refl)))))
 
-pub stars_rule : {live : Type 0} {late : Word → Bool} {before : Option Word → Bool} {d : ℕ} → Apart (is classes.Star) before → Rule live late before (some_stars before) (λ xs. xs) d spec.stars
+pub stars_rule : {live : Type 0} {before : Option Word → Bool} {d : ℕ} → Apart (is classes.Star) before → Rule live before (some_stars before) (λ xs. xs) d spec.stars
 stars_rule {before = before} apart = many (is classes.Star) before stars_repeat apart [] (star_rule (λ t e. refl))
 
 -- what follows stars, and what they stand behind

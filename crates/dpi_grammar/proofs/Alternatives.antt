@@ -16,10 +16,10 @@ module _ {T X Y : Type 0} (begins before : Option T → Bool) (J : Kind T X) (K 
   abbrev pub past : Option T → Bool
   past t = begins t || before t
 
-  past_by : {Z : Type 0} (late : T → Bool) (f : X → Z) (g : Y → Z) (d : ℕ) (p q : Parser T Z) → Starts begins J → ((n : ℕ) (y : Y) (r : List T) → Is K n y → K.grabs y (first r) ≡ false → begins (first (words K y ++ r)) ≡ false)
-      → (s : State T) (b : Bool) → begins (first s.rest) ≡ b → (b ≡ true → Exact late J f d s (p s)) → (b ≡ false → Exact late K g d s (q s)) → Exact late (sum J K) (either f g) d s (choose_by b p q s)
-  past_by late f g d p q starts off s true e left right = formed J (sum J K) inl (left_form begins J K) late (either f g) d s (p s) (left_only begins J K off _ e) (left refl)
-  past_by late f g d p q starts off s false e left right = formed K (sum J K) inr (right_form begins J K) late (either f g) d s (q s) (right_only begins J K starts _ e) (right refl)
+  past_by : {Z : Type 0} (f : X → Z) (g : Y → Z) (d : ℕ) (p q : Parser T Z) → Starts begins J → ((n : ℕ) (y : Y) (r : List T) → Is K n y → K.grabs y (first r) ≡ false → begins (first (words K y ++ r)) ≡ false)
+      → (s : State T) (b : Bool) → begins (first s.rest) ≡ b → (b ≡ true → Exact J f d s (p s)) → (b ≡ false → Exact K g d s (q s)) → Exact (sum J K) (either f g) d s (choose_by b p q s)
+  past_by f g d p q starts off s true e left right = formed J (sum J K) inl (left_form begins J K) (either f g) d s (p s) (left_only begins J K off _ e) (left refl)
+  past_by f g d p q starts off s false e left right = formed K (sum J K) inr (right_form begins J K) (either f g) d s (q s) (right_only begins J K starts _ e) (right refl)
 
   keeps_by : ((n : ℕ) (x : X) (r : List T) → Is J n x → J.grabs x (first r) ≡ false → before (first (words J x ++ r)) ≡ false)
       → ((n : ℕ) (y : Y) (r : List T) → Is K n y → K.grabs y (first r) ≡ false → past (first (words K y ++ r)) ≡ false)
@@ -28,10 +28,10 @@ module _ {T X Y : Type 0} (begins before : Option T → Bool) (J : Kind T X) (K 
   keeps_by j k n (inr y) r is g = or_right _ _ (k n y r is g)
 
   -- the first kind where its trees begin so, else the second
-  pub choice_past : {Z : Type 0} {live : Type 0} {late : T → Bool} {f : X → Z} {g : Y → Z} {d : ℕ} {p q : Parser T Z} → Starts begins J → Rule live late before J f d p → Rule live late past K g d q
-      → Rule live late before (sum J K) (either f g) d (choose begins p q)
-  choice_past {late = late} {f = f} {g = g} {d = d} {p = p} {q = q} starts j k = record {
-    exact = λ l s b. past_by late f g d p q starts (λ n y r is h. or_left _ _ (k.keeps n y r is h)) s (begins (first s.rest)) refl (λ e. j.exact l s b) (λ e. k.exact l s (or_both _ _ e b));
+  pub choice_past : {Z : Type 0} {live : Type 0} {f : X → Z} {g : Y → Z} {d : ℕ} {p q : Parser T Z} → Starts begins J → Rule live before J f d p → Rule live past K g d q
+      → Rule live before (sum J K) (either f g) d (choose begins p q)
+  choice_past {f = f} {g = g} {d = d} {p = p} {q = q} starts j k = record {
+    exact = λ l s b. past_by f g d p q starts (λ n y r is h. or_left _ _ (k.keeps n y r is h)) s (begins (first s.rest)) refl (λ e. j.exact l s b) (λ e. k.exact l s (or_both _ _ e b));
     closes = λ n. form_viable J (sum J K) inl (left_form begins J K) d n [] (j.closes n);
     keeps = keeps_by j.keeps k.keeps;
   }
@@ -68,8 +68,8 @@ module _ {T X : Type 0} (begins : Option T → Bool) (test : X → Bool) (J : Ki
       never = λ y r is few g agrees. k.never y r is.1 (fits y few) g agrees;
     }
 
-    narrowed_by : {Z : Type 0} (late : T → Bool) (f : X → Z) (d : ℕ) (s : State T) (o : Outcome T Z) → ((n : ℕ) → Viable narrow d n []) → begins (first s.rest) ≡ false → Answer late J f d s o → Answer late narrow f d s o
-    narrowed_by late f d s (Ok p) closes e m = record {
+    narrowed_by : {Z : Type 0} (f : X → Z) (d : ℕ) (s : State T) (o : Outcome T Z) → ((n : ℕ) → Viable narrow d n []) → begins (first s.rest) ≡ false → Answer J f d s o → Answer narrow f d s o
+    narrowed_by f d s (Ok p) closes e m = record {
       tree = m.tree;
       is = m.is;
       found = record {
@@ -81,9 +81,9 @@ module _ {T X : Type 0} (begins : Option T → Bool) (test : X → Bool) (J : Ki
         only = λ y r is g agrees. m.found.only y r is.1 g agrees;
       };
     }
-    narrowed_by late f d s (Err Memory) closes e m = m
-    narrowed_by late f d s (Err (Syntax at)) closes e m = record { seen = m.seen; rest = m.rest; place = m.place; stuck = narrow_stuck _ _ (λ x few. tt) d s m.seen m.rest closes e m.stuck }
-    narrowed_by late f d s (Err (TooDeep at)) closes e m = record {
+    narrowed_by f d s (Err Memory) closes e m = m
+    narrowed_by f d s (Err (Syntax at)) closes e m = record { seen = m.seen; rest = m.rest; place = m.place; stuck = narrow_stuck _ _ (λ x few. tt) d s m.seen m.rest closes e m.stuck }
+    narrowed_by f d s (Err (TooDeep at)) closes e m = record {
       seen = m.seen;
       rest = m.rest;
       place = m.place;
@@ -94,10 +94,10 @@ module _ {T X : Type 0} (begins : Option T → Bool) (test : X → Bool) (J : Ki
     }
 
     -- A parser of the whole kind is exact for those, where the token isn't one of them.
-    pub narrowed : {Z : Type 0} {live : Type 0} {late : T → Bool} {f : X → Z} {d : ℕ} {p : Parser T Z} → ((n : ℕ) → Viable narrow d n []) → ((n : ℕ) (x : X) (r : List T) → Is narrow n x → begins (first (words J x ++ r)) ≡ false)
-        → Rule live late never J f d p → Rule live late begins narrow f d p
-    narrowed {late = late} {f = f} {d = d} {p = p} closes other k = record {
-      exact = λ l s b. record { answer = narrowed_by late f d s (p s) closes b (k.exact l s refl).answer };
+    pub narrowed : {Z : Type 0} {live : Type 0} {f : X → Z} {d : ℕ} {p : Parser T Z} → ((n : ℕ) → Viable narrow d n []) → ((n : ℕ) (x : X) (r : List T) → Is narrow n x → begins (first (words J x ++ r)) ≡ false)
+        → Rule live never J f d p → Rule live begins narrow f d p
+    narrowed {f = f} {d = d} {p = p} closes other k = record {
+      exact = λ l s b. record { answer = narrowed_by f d s (p s) closes b (k.exact l s refl).answer };
       closes = closes;
       keeps = λ n x r is g. other n x r is;
     }

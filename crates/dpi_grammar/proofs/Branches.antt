@@ -146,19 +146,19 @@ module _ {T A B : Type 0} (begins : Option T → Bool) (P : Kind T (A ⊎ B)) wh
     later_value found (inl a) p = found_with (found ++ a ∷ []) p
     later_value found (inr b) p = (found, Some b)
 
-    module _ (late : T → Bool) (part : Parser T (A ⊎ B)) (d : ℕ) (exact : (s : State T) → Exact late P (λ w. w) d s (part s)) where
+    module _ (part : Parser T (A ⊎ B)) (d : ℕ) (exact : (s : State T) → Exact P (λ w. w) d s (part s)) where
       From : ℕ → Type 0
       From n = (prior : Option T → Bool) (before : Bool) → GoesOn prior before → (found : List A) (s : State T) → length s.rest ≤ n → prior (first s.rest) ≡ false
-          → Exact late (tail prior before) (found_with found) d s (branches_from begins part n found s)
+          → Exact (tail prior before) (found_with found) d s (branches_from begins part n found s)
 
       shorter : (n : ℕ) (s : State T) (w : A ⊎ B) (s1 : State T) → Found P d s w s1 → length s.rest ≤ suc n → length s1.rest ≤ n
       shorter n s w s1 f h = omega (arith, has_words (words P w) (parts.starts s.place w [] f.is), ap length f.split, length-append (words P w) s1.rest)
 
-      stopped : (prior : Option T → Bool) (before : Bool) (found : List A) (s : State T) → begins (first s.rest) ≡ false → prior (first s.rest) ≡ false → Exact late (tail prior before) (found_with found) d s (Ok ((found, None), s))
+      stopped : (prior : Option T → Bool) (before : Bool) (found : List A) (s : State T) → begins (first s.rest) ≡ false → prior (first s.rest) ≡ false → Exact (tail prior before) (found_with found) d s (Ok ((found, None), s))
       stopped prior before found s stop free =
-          formed (absent (λ t. begins t || prior t)) (tail prior before) (λ _. ([], None)) (empty_form prior before) late (found_with found) d s _ (empty_only prior before _ stop)
-          (remade_exact late (absent (λ t. begins t || prior t)) (λ _. (found, None)) (λ _. found_with found ([], None)) d s _ (λ _. ap (λ l. let p : List A × Option B = (l, None) in p) (append-nil found))
-          (absent_exact late (λ t. begins t || prior t) (found, None) d s (or_both (begins (first s.rest)) (prior (first s.rest)) stop free)))
+          formed (absent (λ t. begins t || prior t)) (tail prior before) (λ _. ([], None)) (empty_form prior before) (found_with found) d s _ (empty_only prior before _ stop)
+          (remade_exact (absent (λ t. begins t || prior t)) (λ _. (found, None)) (λ _. found_with found ([], None)) d s _ (λ _. ap (λ l. let p : List A × Option B = (l, None) in p) (append-nil found))
+          (absent_exact (λ t. begins t || prior t) (found, None) d s (or_both (begins (first s.rest)) (prior (first s.rest)) stop free)))
 
       -- the value, in two ways
       values_same : (found : List A) (p : (A ⊎ B) × (List A × Option B)) → found_with found (joined p) ≡ later_value found p.0 p.1
@@ -170,23 +170,23 @@ module _ {T A B : Type 0} (begins : Option T → Bool) (P : Kind T (A ⊎ B)) wh
       last_only b t n ([], Some c) r h g same = let bad : false ≡ true = h.0 in absurd (cc)
       last_only b t n (a ∷ xs, l) r h g same = let bad : false ≡ true = h.0 in absurd (cc)
 
-      ended_exact : (found : List A) (b : B) (s : State T) → P.grabs (inr b) (first s.rest) ≡ false → Exact late (rest (inr b)) (later_value found (inr b)) d s (Ok ((found, Some b), s))
+      ended_exact : (found : List A) (b : B) (s : State T) → P.grabs (inr b) (first s.rest) ≡ false → Exact (rest (inr b)) (later_value found (inr b)) d s (Ok ((found, Some b), s))
       ended_exact found b s free =
-          formed (absent (P.grabs (inr b))) (rest (inr b)) (λ _. ([], None)) (record { tells = λ n p h. refl; levels_are = λ n p h. refl; is = λ n p h. tt; grabs = λ n p t h. refl }) late (later_value found (inr b)) d s _
-          (last_only b _) (absent_exact late (P.grabs (inr b)) (found, Some b) d s free)
+          formed (absent (P.grabs (inr b))) (rest (inr b)) (λ _. ([], None)) (record { tells = λ n p h. refl; levels_are = λ n p h. refl; is = λ n p h. tt; grabs = λ n p t h. refl }) (later_value found (inr b)) d s _
+          (last_only b _) (absent_exact (P.grabs (inr b)) (found, Some b) d s free)
 
-      next_exact : (n : ℕ) → From n → (found : List A) (s : State T) → length s.rest ≤ suc n → (w : A ⊎ B) (s1 : State T) → Found P d s w s1 → Exact late (rest w) (later_value found w) d s1 (go_on (branches_from begins part n) found w s1)
+      next_exact : (n : ℕ) → From n → (found : List A) (s : State T) → length s.rest ≤ suc n → (w : A ⊎ B) (s1 : State T) → Found P d s w s1 → Exact (rest w) (later_value found w) d s1 (go_on (branches_from begins part n) found w s1)
       unfolding From
       next_exact n more found s h (inl a) s1 f = more (P.grabs (inl a)) (P.told (inl a)).unended (parts.goes_on (inl a)) (found ++ a ∷ []) s1 (shorter n s (inl a) s1 f h) f.before
       next_exact n more found s h (inr b) s1 f = ended_exact found b s1 f.before
 
       from_by : (n : ℕ) (prior : Option T → Bool) (before : Bool) → GoesOn prior before → (found : List A) (s : State T) (b : Bool) → begins (first s.rest) ≡ b → length s.rest ≤ suc n → prior (first s.rest) ≡ false → From n
-          → Exact late (tail prior before) (found_with found) d s (if b then and_then (part s) (go_on (branches_from begins part n) found) else Ok ((found, None), s))
+          → Exact (tail prior before) (found_with found) d s (if b then and_then (part s) (go_on (branches_from begins part n) found) else Ok ((found, None), s))
       from_by n prior before same found s false e h free more = stopped prior before found s e free
       from_by n prior before same found s true e h free more =
-          formed (pair P rest) (tail prior before) joined (some_form prior before (not_before prior before _ same free e)) late (found_with found) d s _ (some_only prior before _ e)
-          (remade_exact late (pair P rest) (λ p. later_value found p.0 p.1) (λ p. found_with found (joined p)) d s _ (values_same found)
-          (seq_exact P rest rest_joins late (λ w. w) (later_value found) d s (part s) (go_on (branches_from begins part n) found) (λ w m. rest_closes w d m) (exact s) (next_exact n more found s h)))
+          formed (pair P rest) (tail prior before) joined (some_form prior before (not_before prior before _ same free e)) (found_with found) d s _ (some_only prior before _ e)
+          (remade_exact (pair P rest) (λ p. later_value found p.0 p.1) (λ p. found_with found (joined p)) d s _ (values_same found)
+          (seq_exact P rest rest_joins (λ w. w) (later_value found) d s (part s) (go_on (branches_from begins part n) found) (λ w m. rest_closes w d m) (exact s) (next_exact n more found s h)))
 
       no_rest : (l : List T) → length l ≤ 0 → first l ≡ None
       no_rest [] h = refl
@@ -197,16 +197,16 @@ module _ {T A B : Type 0} (begins : Option T → Bool) (P : Kind T (A ⊎ B)) wh
       from zero prior before same found s h free = stopped prior before found s (ap begins (no_rest s.rest h) ∙ parts.stop) free
       from (suc n) prior before same found s h free = from_by n prior before same found s (begins (first s.rest)) refl h free (from n)
 
-      pub branches_exact : (prior : Option T → Bool) (before : Bool) → GoesOn prior before → (s : State T) → prior (first s.rest) ≡ false → Exact late (tail prior before) (found_with []) d s (branches begins part s)
+      pub branches_exact : (prior : Option T → Bool) (before : Bool) → GoesOn prior before → (s : State T) → prior (first s.rest) ≡ false → Exact (tail prior before) (found_with []) d s (branches begins part s)
       unfolding From
       branches_exact prior before same s free = from (length s.rest) prior before same [] s (omega arith) free
 
 -- the parts behind what ends in an `if` without an `else`, or doesn't
-pub branched : {T A B : Type 0} {live : Type 0} {late : T → Bool} {P : Kind T (A ⊎ B)} {d : ℕ} {part : Parser T (A ⊎ B)} (begins : Option T → Bool) → Parts begins P
+pub branched : {T A B : Type 0} {live : Type 0} {P : Kind T (A ⊎ B)} {d : ℕ} {part : Parser T (A ⊎ B)} (begins : Option T → Bool) → Parts begins P
     → (prior : Option T → Bool) (before : Bool) → GoesOn begins P prior before
-    → Rule live late never P (λ w. w) d part → Rule live late prior (tail begins P prior before) (λ p. p) d (branches begins part)
-branched {late = late} {P = P} {d = d} {part = part} begins parts prior before same k = record {
-  exact = λ l s b. branches_exact begins P parts late part d (λ s. k.exact l s refl) prior before same s b;
+    → Rule live never P (λ w. w) d part → Rule live prior (tail begins P prior before) (λ p. p) d (branches begins part)
+branched {P = P} {d = d} {part = part} begins parts prior before same k = record {
+  exact = λ l s b. branches_exact begins P parts part d (λ s. k.exact l s refl) prior before same s b;
   closes = tail_closes begins P parts prior before d;
   keeps = λ n p r h g. tail_keeps_by begins P parts prior before same p.0 p.1 n r h g;
 }
@@ -240,9 +240,9 @@ module _ {T X : Type 0} (test : Option T → Bool) (K : Kind T X) (some : (n : �
     few = omega (arith, v.few);
   }
 
-  kept_by : {Z : Type 0} (late : T → Bool) (make : X → Z) (d : ℕ) (s : State T) (o : Outcome T Z) → Viable (other_than test K) d s.place [] → test (first s.rest) ≡ false → Answer late K make d s o
-      → Answer late (other_than test K) make d s o
-  kept_by late make d s (Ok p) shortest off m = record {
+  kept_by : {Z : Type 0} (make : X → Z) (d : ℕ) (s : State T) (o : Outcome T Z) → Viable (other_than test K) d s.place [] → test (first s.rest) ≡ false → Answer K make d s o
+      → Answer (other_than test K) make d s o
+  kept_by make d s (Ok p) shortest off m = record {
     tree = m.tree;
     is = m.is;
     found = record {
@@ -254,8 +254,8 @@ module _ {T X : Type 0} (test : Option T → Bool) (K : Kind T X) (some : (n : �
       only = λ y r is g agrees. m.found.only y r is.1 g agrees;
     };
   }
-  kept_by late make d s (Err Memory) shortest off m = m
-  kept_by late make d s (Err (Syntax at)) shortest off m = record {
+  kept_by make d s (Err Memory) shortest off m = m
+  kept_by make d s (Err (Syntax at)) shortest off m = record {
     seen = m.seen;
     rest = m.rest;
     place = m.place;
@@ -265,7 +265,7 @@ module _ {T X : Type 0} (test : Option T → Bool) (K : Kind T X) (some : (n : �
       never = λ y r is few g agrees. m.stuck.never y r is.1 tt g agrees;
     };
   }
-  kept_by late make d s (Err (TooDeep at)) shortest off m = record {
+  kept_by make d s (Err (TooDeep at)) shortest off m = record {
     seen = m.seen;
     rest = m.rest;
     place = m.place;
@@ -280,6 +280,6 @@ module _ {T X : Type 0} (test : Option T → Bool) (K : Kind T X) (some : (n : �
   }
 
   -- where no such token comes next, a parser of all trees is one of these
-  pub kept_exact : {Z : Type 0} (late : T → Bool) (make : X → Z) (d : ℕ) (s : State T) (o : Outcome T Z) → Viable (other_than test K) d s.place [] → test (first s.rest) ≡ false → Exact late K make d s o
-      → Exact late (other_than test K) make d s o
-  kept_exact late make d s o shortest off m = record { answer = kept_by late make d s o shortest off m.answer }
+  pub kept_exact : {Z : Type 0} (make : X → Z) (d : ℕ) (s : State T) (o : Outcome T Z) → Viable (other_than test K) d s.place [] → test (first s.rest) ≡ false → Exact K make d s o
+      → Exact (other_than test K) make d s o
+  kept_exact make d s o shortest off m = record { answer = kept_by make d s o shortest off m.answer }

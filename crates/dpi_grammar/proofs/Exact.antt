@@ -20,10 +20,6 @@ levels K x = (K.told x).levels
 abbrev pub Is : {T X : Type 0} → Kind T X → ℕ → X → Type 0
 Is K n x = IsRight n (K.told x).atoms
 
--- The token that opens a level too many is the one behind those seen, or the last of them where that one is known late.
-abbrev pub OpensAt : {T : Type 0} → (T → Bool) → ℕ → List T → ℕ → Type 0
-OpensAt late n seen at = (at ≡ n + length seen) ⊎ ((front : List _) × (t : _) × (seen ≡ front ++ t ∷ []) × (late t ≡ true) × (at ≡ n + length front))
-
 module _ {T X : Type 0} (K : Kind T X) where
   -- a tree of at most d levels begins with these tokens
   pub record Viable (d n : ℕ) (seen : List T) : Type 0 where
@@ -55,10 +51,10 @@ module _ {T X : Type 0} (K : Kind T X) where
     pub stuck : Stuck (λ _. Unit {0}) d s seen rest
 
   -- none of at most d levels goes on, but another one does
-  pub record TooFar (late : T → Bool) (d : ℕ) (s : State T) (at : ℕ) : Type 0 where
+  pub record TooFar (d : ℕ) (s : State T) (at : ℕ) : Type 0 where
     pub seen : List T
     pub rest : List T
-    pub place : OpensAt late s.place seen at
+    pub place : at ≡ s.place + length seen
     pub stuck : Stuck (λ y. levels K y ≤ d) d s seen rest
     pub deep : X
     pub deep_is : Is K s.place deep
@@ -70,14 +66,14 @@ pub record Made {T X Z : Type 0} (K : Kind T X) (make : X → Z) (d : ℕ) (s : 
   pub is : make tree ≡ z
   pub found : Found K d s tree after
 
-abbrev pub Answer : {T X Z : Type 0} → (T → Bool) → Kind T X → (X → Z) → ℕ → State T → Outcome T Z → Type 0
-Answer late K make d s (Ok p) = Made K make d s p.0 p.1
-Answer late K make d s (Err Memory) = ⊥
-Answer late K make d s (Err (Syntax at)) = Refused K d s at
-Answer late K make d s (Err (TooDeep at)) = TooFar K late d s at
+abbrev pub Answer : {T X Z : Type 0} → Kind T X → (X → Z) → ℕ → State T → Outcome T Z → Type 0
+Answer K make d s (Ok p) = Made K make d s p.0 p.1
+Answer K make d s (Err Memory) = ⊥
+Answer K make d s (Err (Syntax at)) = Refused K d s at
+Answer K make d s (Err (TooDeep at)) = TooFar K d s at
 
-pub record Exact {T X Z : Type 0} (late : T → Bool) (K : Kind T X) (make : X → Z) (d : ℕ) (s : State T) (o : Outcome T Z) : Type 0 where
-  pub answer : Answer late K make d s o
+pub record Exact {T X Z : Type 0} (K : Kind T X) (make : X → Z) (d : ℕ) (s : State T) (o : Outcome T Z) : Type 0 where
+  pub answer : Answer K make d s o
 
 -- ---- one after another. What may be second can depend on the first.
 
@@ -87,11 +83,6 @@ pair J K = record { told = λ p. J.told p.0 & (K p.0).told p.1; grabs = λ p t. 
 -- no second part begins with a token that would have gone on with the first
 abbrev pub Joins : {T X Y : Type 0} → Kind T X → (X → Kind T Y) → Type 0
 Joins J K = (x : _) (m : ℕ) (y : _) (r : List _) → Is (K x) m y → (K x).grabs y (first r) ≡ false → J.grabs x (first (words (K x) y ++ r)) ≡ false
-
-OpensAt-behind : {T : Type 0} (late : T → Bool) (n m : ℕ) (w seen : List T) (at : ℕ) → m ≡ n + length w → OpensAt late m seen at → OpensAt late n (w ++ seen) at
-OpensAt-behind late n m w seen at e (inl h) = inl (omega (arith, h, e, length-append w seen))
-OpensAt-behind late n m w seen at e (inr h) =
-    inr (w ++ h.0, h.1, ap (λ l. w ++ l) h.2 ∙ sym (append_assoc w h.0 (h.1 ∷ [])), h.3, omega (arith, h.4, e, length-append w h.0))
 
 module _ {T X Y : Type 0} (J : Kind T X) (K : X → Kind T Y) (joins : Joins J K) where
   pair_words : (x : X) (y : Y) → words (pair J K) (x, y) ≡ words J x ++ words (K x) y
@@ -183,37 +174,37 @@ module _ {T X Y : Type 0} (J : Kind T X) (K : X → Kind T Y) (joins : Joins J K
         second_only s.place s1.place x y s2.rest f.place g.only p.0 (sym e) p.1 r is before agrees2;
   }
 
-  after_found_by : {Z : Type 0} (late : T → Bool) (make : X → Y → Z) (d : ℕ) (s : State T) (x : X) (s1 : State T) → Found J d s x s1
-      → (o : Outcome T Z) → Answer late (K x) (make x) d s1 o → Answer late (pair J K) (λ p. make p.0 p.1) d s o
+  after_found_by : {Z : Type 0} (make : X → Y → Z) (d : ℕ) (s : State T) (x : X) (s1 : State T) → Found J d s x s1
+      → (o : Outcome T Z) → Answer (K x) (make x) d s1 o → Answer (pair J K) (λ p. make p.0 p.1) d s o
   unfolding second_stuck
-  after_found_by late make d s x s1 f (Ok z) m = record { tree = (x, m.tree); is = m.is; found = second_found d s x s1 m.tree z.1 f m.found }
-  after_found_by late make d s x s1 f (Err Memory) m = m
-  after_found_by late make d s x s1 f (Err (Syntax at)) m = record {
+  after_found_by make d s x s1 f (Ok z) m = record { tree = (x, m.tree); is = m.is; found = second_found d s x s1 m.tree z.1 f m.found }
+  after_found_by make d s x s1 f (Err Memory) m = m
+  after_found_by make d s x s1 f (Err (Syntax at)) m = record {
     seen = words J x ++ m.seen;
     rest = m.rest;
     place = omega (arith, m.place, f.place, length-append (words J x) m.seen);
     stuck = second_stuck _ _ x (λ p few. tt) d s s1 m.seen m.rest f m.stuck;
   }
-  after_found_by late make d s x s1 f (Err (TooDeep at)) m = record {
+  after_found_by make d s x s1 f (Err (TooDeep at)) m = record {
     seen = words J x ++ m.seen;
     rest = m.rest;
-    place = OpensAt-behind late s.place s1.place (words J x) m.seen at f.place m.place;
+    place = omega (arith, m.place, f.place, length-append (words J x) m.seen);
     stuck = second_stuck _ _ x (λ y few. omega (arith, few)) d s s1 m.seen m.rest f m.stuck;
     deep = (x, m.deep);
     deep_is = is_pair s.place s1.place x m.deep f.place f.is m.deep_is;
     goes_on = λ r. subst (λ us. Agrees us (words J x ++ m.seen) m.rest) (sym (regrouped x m.deep r)) (sooner (words J x) _ _ _ (m.goes_on r));
   }
 
-  seq_by : {A Z : Type 0} (late : T → Bool) (value : X → A) (make : X → Y → Z) (d : ℕ) (s : State T) (o : Outcome T A) (q : A → Parser T Z) → ((x : X) (m : ℕ) → Viable (K x) d m [])
-      → Answer late J value d s o → ((x : X) (s1 : State T) → Found J d s x s1 → Exact late (K x) (make x) d s1 (q (value x) s1))
-      → Answer late (pair J K) (λ p. make p.0 p.1) d s (and_then o q)
+  seq_by : {A Z : Type 0} (value : X → A) (make : X → Y → Z) (d : ℕ) (s : State T) (o : Outcome T A) (q : A → Parser T Z) → ((x : X) (m : ℕ) → Viable (K x) d m [])
+      → Answer J value d s o → ((x : X) (s1 : State T) → Found J d s x s1 → Exact (K x) (make x) d s1 (q (value x) s1))
+      → Answer (pair J K) (λ p. make p.0 p.1) d s (and_then o q)
   unfolding first_stuck
-  seq_by late value make d s (Ok p) q w m next =
-      subst (λ a. Answer late (pair J K) (λ p. make p.0 p.1) d s (q a p.1)) m.is
-      (after_found_by late make d s m.tree p.1 m.found (q (value m.tree) p.1) (next m.tree p.1 m.found).answer)
-  seq_by late value make d s (Err Memory) q w m next = m
-  seq_by late value make d s (Err (Syntax at)) q w m next = record { seen = m.seen; rest = m.rest; place = m.place; stuck = first_stuck _ _ (λ p few. tt) d s m.seen m.rest w m.stuck }
-  seq_by late value make d s (Err (TooDeep at)) q w m next =
+  seq_by value make d s (Ok p) q w m next =
+      subst (λ a. Answer (pair J K) (λ p. make p.0 p.1) d s (q a p.1)) m.is
+      (after_found_by make d s m.tree p.1 m.found (q (value m.tree) p.1) (next m.tree p.1 m.found).answer)
+  seq_by value make d s (Err Memory) q w m next = m
+  seq_by value make d s (Err (Syntax at)) q w m next = record { seen = m.seen; rest = m.rest; place = m.place; stuck = first_stuck _ _ (λ p few. tt) d s m.seen m.rest w m.stuck }
+  seq_by value make d s (Err (TooDeep at)) q w m next =
       let second = w m.deep (s.place + length (words J m.deep)) in
       record {
         seen = m.seen;
@@ -226,7 +217,7 @@ module _ {T X Y : Type 0} (J : Kind T X) (K : X → Kind T Y) (joins : Joins J K
       }
 
   -- q goes on from the value that was made of the first
-  pub seq_exact : {A Z : Type 0} (late : T → Bool) (value : X → A) (make : X → Y → Z) (d : ℕ) (s : State T) (o : Outcome T A) (q : A → Parser T Z) → ((x : X) (m : ℕ) → Viable (K x) d m [])
-      → Exact late J value d s o → ((x : X) (s1 : State T) → Found J d s x s1 → Exact late (K x) (make x) d s1 (q (value x) s1))
-      → Exact late (pair J K) (λ p. make p.0 p.1) d s (and_then o q)
-  seq_exact late value make d s o q w m next = record { answer = seq_by late value make d s o q w m.answer next }
+  pub seq_exact : {A Z : Type 0} (value : X → A) (make : X → Y → Z) (d : ℕ) (s : State T) (o : Outcome T A) (q : A → Parser T Z) → ((x : X) (m : ℕ) → Viable (K x) d m [])
+      → Exact J value d s o → ((x : X) (s1 : State T) → Found J d s x s1 → Exact (K x) (make x) d s1 (q (value x) s1))
+      → Exact (pair J K) (λ p. make p.0 p.1) d s (and_then o q)
+  seq_exact value make d s o q w m next = record { answer = seq_by value make d s o q w m.answer next }

@@ -89,6 +89,6 @@ same_first begins [] r stop e = true_not_false (begins None) e stop
 same_first begins (t ∷ w) r stop e = e
 
 -- its trees begin with one of these tokens
-pub starts_of : {T X Z : Type 0} {live : Type 0} {late : T → Bool} {K : Kind T X} {make : X → Z} {d : ℕ} {p : Parser T Z} (begins : Option T → Bool) → begins None ≡ false → ((x : X) → K.grabs x None ≡ false)
-    → Rule live late (λ t. not (begins t)) K make d p → Starts begins K
+pub starts_of : {T X Z : Type 0} {live : Type 0} {K : Kind T X} {make : X → Z} {d : ℕ} {p : Parser T Z} (begins : Option T → Bool) → begins None ≡ false → ((x : X) → K.grabs x None ≡ false)
+    → Rule live (λ t. not (begins t)) K make d p → Starts begins K
 starts_of {K = K} begins stop free k n x r h = same_first begins (words K x) r stop (not_false _ (k.keeps n x [] h (free x)))

@@ -71,12 +71,12 @@ module _ {T X Z : Type 0} (S : Kind T X) (K : Kind T Z) (make : X → Z) (form :
         r before agrees;
   }
 
-  formed_by : {W : Type 0} (late : T → Bool) (use_it : Z → W) (d : ℕ) (s : State T) (o : Outcome T W) → Only S K make (first s.rest) → Answer late S (λ x. use_it (make x)) d s o → Answer late K use_it d s o
+  formed_by : {W : Type 0} (use_it : Z → W) (d : ℕ) (s : State T) (o : Outcome T W) → Only S K make (first s.rest) → Answer S (λ x. use_it (make x)) d s o → Answer K use_it d s o
   unfolding form_stuck
-  formed_by late use_it d s (Ok z) only m = record { tree = make m.tree; is = m.is; found = form_found d s m.tree z.1 only m.found }
-  formed_by late use_it d s (Err Memory) only m = m
-  formed_by late use_it d s (Err (Syntax at)) only m = record { seen = m.seen; rest = m.rest; place = m.place; stuck = form_stuck _ _ d s m.seen m.rest (λ x is few. tt) only m.stuck }
-  formed_by late use_it d s (Err (TooDeep at)) only m = record {
+  formed_by use_it d s (Ok z) only m = record { tree = make m.tree; is = m.is; found = form_found d s m.tree z.1 only m.found }
+  formed_by use_it d s (Err Memory) only m = m
+  formed_by use_it d s (Err (Syntax at)) only m = record { seen = m.seen; rest = m.rest; place = m.place; stuck = form_stuck _ _ d s m.seen m.rest (λ x is few. tt) only m.stuck }
+  formed_by use_it d s (Err (TooDeep at)) only m = record {
     seen = m.seen;
     rest = m.rest;
     place = m.place;
@@ -86,13 +86,13 @@ module _ {T X Z : Type 0} (S : Kind T X) (K : Kind T Z) (make : X → Z) (form :
     goes_on = λ r. subst (λ w. Agrees (w ++ r) m.seen m.rest) (sym (form.tells s.place m.deep m.deep_is)) (m.goes_on r);
   }
 
-  pub formed : {W : Type 0} (late : T → Bool) (use_it : Z → W) (d : ℕ) (s : State T) (o : Outcome T W) → Only S K make (first s.rest) → Exact late S (λ x. use_it (make x)) d s o → Exact late K use_it d s o
-  formed late use_it d s o only m = record { answer = formed_by late use_it d s o only m.answer }
+  pub formed : {W : Type 0} (use_it : Z → W) (d : ℕ) (s : State T) (o : Outcome T W) → Only S K make (first s.rest) → Exact S (λ x. use_it (make x)) d s o → Exact K use_it d s o
+  formed use_it d s o only m = record { answer = formed_by use_it d s o only m.answer }
 
 -- no tree begins with the first token
-pub none_begins : {T Z W : Type 0} (late : T → Bool) (K : Kind T Z) (use_it : Z → W) (d : ℕ) (s : State T) → Viable K d s.place []
-    → ((n : ℕ) (z : Z) (r : List T) → Is K n z → K.grabs z (first r) ≡ false → first (words K z ++ r) ≡ first s.rest → ⊥) → Exact late K use_it d s (Err (Syntax s.place))
-none_begins late K use_it d s w none = record {
+pub none_begins : {T Z W : Type 0} (K : Kind T Z) (use_it : Z → W) (d : ℕ) (s : State T) → Viable K d s.place []
+    → ((n : ℕ) (z : Z) (r : List T) → Is K n z → K.grabs z (first r) ≡ false → first (words K z ++ r) ≡ first s.rest → ⊥) → Exact K use_it d s (Err (Syntax s.place))
+none_begins K use_it d s w none = record {
   answer = record {
     seen = [];
     rest = s.rest;
@@ -102,13 +102,13 @@ none_begins late K use_it d s w none = record {
 }
 
 -- the first token opens one level too many
-pub opens : {T Z W : Type 0} (late : T → Bool) (K : Kind T Z) (use_it : Z → W) (d : ℕ) (s : State T) (deep : Z) → Viable K d s.place [] → Is K s.place deep → ((r : List T) → first (words K deep ++ r) ≡ first s.rest)
-    → ((n : ℕ) (z : Z) (r : List T) → Is K n z → K.grabs z (first r) ≡ false → first (words K z ++ r) ≡ first s.rest → levels K z ≤ d → ⊥) → Exact late K use_it d s (Err (TooDeep s.place))
-opens late K use_it d s deep w is begins none = record {
+pub opens : {T Z W : Type 0} (K : Kind T Z) (use_it : Z → W) (d : ℕ) (s : State T) (deep : Z) → Viable K d s.place [] → Is K s.place deep → ((r : List T) → first (words K deep ++ r) ≡ first s.rest)
+    → ((n : ℕ) (z : Z) (r : List T) → Is K n z → K.grabs z (first r) ≡ false → first (words K z ++ r) ≡ first s.rest → levels K z ≤ d → ⊥) → Exact K use_it d s (Err (TooDeep s.place))
+opens K use_it d s deep w is begins none = record {
   answer = record {
     seen = [];
     rest = s.rest;
-    place = inl (omega arith);
+    place = omega arith;
     stuck = record { split = refl; viable = w; never = λ z r is few before agrees. none s.place z r is before agrees few };
     deep = deep;
     deep_is = is;
@@ -132,9 +132,9 @@ module _ {T X : Type 0} (K : Kind T X) where
     never = λ y r is fits before agrees. k.never y r is (few y fits) before agrees;
   }
 
-  enter_by : {Z : Type 0} (late : T → Bool) (make : X → Z) (d : ℕ) (s : State T) (o : Outcome T Z) → Answer late K make d s o → Answer late (within K) make (d + 1) s o
+  enter_by : {Z : Type 0} (make : X → Z) (d : ℕ) (s : State T) (o : Outcome T Z) → Answer K make d s o → Answer (within K) make (d + 1) s o
   unfolding within_stuck
-  enter_by late make d s (Ok z) m = record {
+  enter_by make d s (Ok z) m = record {
     tree = m.tree;
     is = m.is;
     found = record {
@@ -146,9 +146,9 @@ module _ {T X : Type 0} (K : Kind T X) where
       only = m.found.only;
     };
   }
-  enter_by late make d s (Err Memory) m = m
-  enter_by late make d s (Err (Syntax at)) m = record { seen = m.seen; rest = m.rest; place = m.place; stuck = within_stuck _ _ (λ _ _. tt) d s m.seen m.rest m.stuck }
-  enter_by late make d s (Err (TooDeep at)) m = record {
+  enter_by make d s (Err Memory) m = m
+  enter_by make d s (Err (Syntax at)) m = record { seen = m.seen; rest = m.rest; place = m.place; stuck = within_stuck _ _ (λ _ _. tt) d s m.seen m.rest m.stuck }
+  enter_by make d s (Err (TooDeep at)) m = record {
     seen = m.seen;
     rest = m.rest;
     place = m.place;
@@ -158,5 +158,5 @@ module _ {T X : Type 0} (K : Kind T X) where
     goes_on = m.goes_on;
   }
 
-  pub enter : {Z : Type 0} (late : T → Bool) (make : X → Z) (d : ℕ) (s : State T) (o : Outcome T Z) → Exact late K make d s o → Exact late (within K) make (d + 1) s o
-  enter late make d s o m = record { answer = enter_by late make d s o m.answer }
+  pub enter : {Z : Type 0} (make : X → Z) (d : ℕ) (s : State T) (o : Outcome T Z) → Exact K make d s o → Exact (within K) make (d + 1) s o
+  enter make d s o m = record { answer = enter_by make d s o m.answer }

@@ -131,18 +131,18 @@ module _ {T A B C : Type 0} (begins : Option T → Bool) (P : Kind T (A ⊎ B)) 
       values_same found (inl a, None) = refl
       values_same found (inr b, y) = ap (λ l. let q : List A × V = (l, f b) in q) (append-nil found)
 
-      module _ (late : T → Bool) (part : Parser T (A ⊎ V)) (ending : Parser T V) (d : ℕ) (exact : (s : State T) → Exact late P (part_value f) d s (part s)) (last_exact : (s : State T) → Exact late E g d s (ending s)) where
+      module _ (part : Parser T (A ⊎ V)) (ending : Parser T V) (d : ℕ) (exact : (s : State T) → Exact P (part_value f) d s (part s)) (last_exact : (s : State T) → Exact E g d s (ending s)) where
         From : ℕ → Type 0
-        From n = (found : List A) (s : State T) → length s.rest ≤ n → Exact late led (found_with found) d s (leading_from begins part ending n found s)
+        From n = (found : List A) (s : State T) → length s.rest ≤ n → Exact led (found_with found) d s (leading_from begins part ending n found s)
 
         shorter : (n : ℕ) (s : State T) (w : A ⊎ B) (s1 : State T) → Found P d s w s1 → length s.rest ≤ suc n → length s1.rest ≤ n
         shorter n s w s1 h k = omega (arith, has_words (words P w) (leads.starts s.place w [] h.is), ap length h.split, length-append (words P w) s1.rest)
 
-        stopped : (found : List A) (s : State T) → begins (first s.rest) ≡ false → Exact late led (found_with found) d s (and_then (ending s) (λ v. pure (found, v)))
+        stopped : (found : List A) (s : State T) → begins (first s.rest) ≡ false → Exact led (found_with found) d s (and_then (ending s) (λ v. pure (found, v)))
         stopped found s stop =
-            formed E led (λ c. ([], inr c)) end_form late (found_with found) d s _ (end_only _ stop)
-            (remade_exact late E (λ c. (found, g c)) (λ c. found_with found ([], inr c)) d s _ (λ c. ap (λ l. let p : List A × V = (l, g c) in p) (append-nil found))
-            (mapped_exact late E g (λ v. let p : List A × V = (found, v) in p) d s (ending s) (last_exact s)))
+            formed E led (λ c. ([], inr c)) end_form (found_with found) d s _ (end_only _ stop)
+            (remade_exact E (λ c. (found, g c)) (λ c. found_with found ([], inr c)) d s _ (λ c. ap (λ l. let p : List A × V = (l, g c) in p) (append-nil found))
+            (mapped_exact E g (λ v. let p : List A × V = (found, v) in p) d s (ending s) (last_exact s)))
 
         some_only_rest : (a : A) (t : Option T) → Only led (rest (inl a)) Some t
         some_only_rest a t n (Some p) r h g2 same = (p, h, refl)
@@ -156,12 +156,12 @@ module _ {T A B C : Type 0} (begins : Option T → Bool) (P : Kind T (A ⊎ B)) 
         none_only_rest b t n (Some p) r h g2 same = let bad : false ≡ true = h.0 in absurd (cc)
 
         next_exact : (n : ℕ) → From n → (found : List A) (s : State T) → length s.rest ≤ suc n → (w : A ⊎ B) (s1 : State T) → Found P d s w s1
-            → Exact late (rest w) (later_value found w) d s1 (lead (leading_from begins part ending n) found (part_value f w) s1)
+            → Exact (rest w) (later_value found w) d s1 (lead (leading_from begins part ending n) found (part_value f w) s1)
         unfolding From
         next_exact n more found s k (inl a) s1 h =
-            formed led (rest (inl a)) Some (told_form led (rest (inl a)) Some (λ p. refl) (λ p t. refl)) late (later_value found (inl a)) d s1 _ (some_only_rest a _) (more (found ++ a ∷ []) s1 (shorter n s (inl a) s1 h k))
+            formed led (rest (inl a)) Some (told_form led (rest (inl a)) Some (λ p. refl) (λ p t. refl)) (later_value found (inl a)) d s1 _ (some_only_rest a _) (more (found ++ a ∷ []) s1 (shorter n s (inl a) s1 h k))
         next_exact n more found s k (inr b) s1 h =
-            formed (absent (P.grabs (inr b))) (rest (inr b)) (λ _. None) (none_form b) late (later_value found (inr b)) d s1 _ (none_only_rest b _) (absent_exact late (P.grabs (inr b)) (found, f b) d s1 h.before)
+            formed (absent (P.grabs (inr b))) (rest (inr b)) (λ _. None) (none_form b) (later_value found (inr b)) d s1 _ (none_only_rest b _) (absent_exact (P.grabs (inr b)) (found, f b) d s1 h.before)
 
         rest_closes : (w : A ⊎ B) (n : ℕ) → Viable led d n [] → Viable (rest w) d n []
         rest_closes (inl a) n v = record { tree = Some v.tree; left = v.left; begins = v.begins; is = v.is; few = v.few }
@@ -169,12 +169,12 @@ module _ {T A B C : Type 0} (begins : Option T → Bool) (P : Kind T (A ⊎ B)) 
 
         module _ (closes : (n : ℕ) → Viable led d n []) where
           from_by : (n : ℕ) (found : List A) (s : State T) (b : Bool) → begins (first s.rest) ≡ b → length s.rest ≤ suc n → From n
-              → Exact late led (found_with found) d s (if b then and_then (part s) (lead (leading_from begins part ending n) found) else and_then (ending s) (λ v. pure (found, v)))
+              → Exact led (found_with found) d s (if b then and_then (part s) (lead (leading_from begins part ending n) found) else and_then (ending s) (λ v. pure (found, v)))
           from_by n found s false e k more = stopped found s e
           from_by n found s true e k more =
-              formed (pair P rest) led joined some_form late (found_with found) d s _ (some_only _ e)
-              (remade_exact late (pair P rest) (λ p. later_value found p.0 p.1) (λ p. found_with found (joined p)) d s _ (values_same found)
-              (seq_exact P rest rest_joins late (part_value f) (later_value found) d s (part s) (lead (leading_from begins part ending n) found) (λ w m. rest_closes w m (closes m)) (exact s) (next_exact n more found s k)))
+              formed (pair P rest) led joined some_form (found_with found) d s _ (some_only _ e)
+              (remade_exact (pair P rest) (λ p. later_value found p.0 p.1) (λ p. found_with found (joined p)) d s _ (values_same found)
+              (seq_exact P rest rest_joins (part_value f) (later_value found) d s (part s) (lead (leading_from begins part ending n) found) (λ w m. rest_closes w m (closes m)) (exact s) (next_exact n more found s k)))
 
           no_rest : (l : List T) → length l ≤ 0 → first l ≡ None
           no_rest [] h = refl
@@ -185,18 +185,18 @@ module _ {T A B C : Type 0} (begins : Option T → Bool) (P : Kind T (A ⊎ B)) 
           from zero found s k = stopped found s (ap begins (no_rest s.rest k) ∙ leads.stop)
           from (suc n) found s k = from_by n found s (begins (first s.rest)) refl k (from n)
 
-          pub leading_exact : (s : State T) → Exact late led (found_with []) d s (leading begins part ending s)
+          pub leading_exact : (s : State T) → Exact led (found_with []) d s (leading begins part ending s)
           unfolding From
           leading_exact s = from (length s.rest) [] s (omega arith)
 
 -- parts up to the last one
-pub leading_rule : {T A B C V : Type 0} {live : Type 0} {late : T → Bool} {P : Kind T (A ⊎ B)} {E : Kind T C} {d : ℕ} {part : Parser T (A ⊎ V)} {ending : Parser T V} (begins : Option T → Bool) (f : B → V) (g : C → V)
-    → (leads : Leads begins P E) (other : C) → Rule live late never P (part_value f) d part → Rule live late never E g d ending
-    → Rule live late never (led begins P E) (λ p. (p.0, either f g p.1)) d (leading begins part ending)
-leading_rule {late = late} {P = P} {E = E} {d = d} {part = part} {ending = ending} begins f g leads other k e =
+pub leading_rule : {T A B C V : Type 0} {live : Type 0} {P : Kind T (A ⊎ B)} {E : Kind T C} {d : ℕ} {part : Parser T (A ⊎ V)} {ending : Parser T V} (begins : Option T → Bool) (f : B → V) (g : C → V)
+    → (leads : Leads begins P E) (other : C) → Rule live never P (part_value f) d part → Rule live never E g d ending
+    → Rule live never (led begins P E) (λ p. (p.0, either f g p.1)) d (leading begins part ending)
+leading_rule {P = P} {E = E} {d = d} {part = part} {ending = ending} begins f g leads other k e =
     let closes : (n : ℕ) → Viable (led begins P E) d n [] = λ n. form_viable E (led begins P E) (λ c. ([], inr c)) (end_form begins P E leads other) d n [] (e.closes n) in
     record {
-      exact = λ l s b. leading_exact begins P E leads other f g late part ending d (λ s. k.exact l s refl) (λ s. e.exact l s refl) closes s;
+      exact = λ l s b. leading_exact begins P E leads other f g part ending d (λ s. k.exact l s refl) (λ s. e.exact l s refl) closes s;
       closes = closes;
       keeps = λ n p r h g. refl;
     }

@@ -4,6 +4,7 @@ pub mod Forms
 pub mod Rules
 pub mod Many
 pub mod Whole
+pub mod OneAnswer
 pub mod Turns
 pub mod Deeper
 pub mod Branches

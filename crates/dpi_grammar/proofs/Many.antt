@@ -27,8 +27,8 @@ or_both false b p q = q
 abbrev pub absent : {T : Type 0} → (Option T → Bool) → Kind T (Unit {0})
 absent grabs = record { told = λ _. told.nothing; grabs = λ _. grabs }
 
-pub absent_exact : {T Z : Type 0} (late : T → Bool) (grabs : Option T → Bool) (z : Z) (d : ℕ) (s : State T) → grabs (first s.rest) ≡ false → Exact late (absent grabs) (λ _. z) d s (Ok (z, s))
-absent_exact late grabs z d s b = record {
+pub absent_exact : {T Z : Type 0} (grabs : Option T → Bool) (z : Z) (d : ℕ) (s : State T) → grabs (first s.rest) ≡ false → Exact (absent grabs) (λ _. z) d s (Ok (z, s))
+absent_exact grabs z d s b = record {
   answer = record {
     tree = tt;
     is = refl;
@@ -36,9 +36,9 @@ absent_exact late grabs z d s b = record {
   };
 }
 
-pub done : {T Z : Type 0} {live : Type 0} {late : T → Bool} {d : ℕ} (before : Option T → Bool) (z : Z) → Rule live late before (absent before) (λ _. z) d (λ s. Ok (z, s))
-done {late = late} {d = d} before z = record {
-  exact = λ l s b. absent_exact late before z d s b;
+pub done : {T Z : Type 0} {live : Type 0} {d : ℕ} (before : Option T → Bool) (z : Z) → Rule live before (absent before) (λ _. z) d (λ s. Ok (z, s))
+done {d = d} before z = record {
+  exact = λ l s b. absent_exact before z d s b;
   closes = λ n. record { tree = tt; left = []; begins = refl; is = tt; few = omega arith };
   keeps = λ n x r is g. g;
 }
@@ -68,8 +68,8 @@ pub starts_apart : {T X : Type 0} (begins before : Option T → Bool) (K : Kind 
 starts_apart begins before K starts apart n x r is g = apart _ (starts n x r is)
 
 -- a rule whose trees begin with one of these tokens, behind something that none of these goes on with
-pub put_apart : {T X Z : Type 0} {live : Type 0} {late : T → Bool} {K : Kind T X} {make : X → Z} {d : ℕ} {p : Parser T Z} (begins before : Option T → Bool) → Starts begins K → Apart begins before
-    → Rule live late never K make d p → Rule live late before K make d p
+pub put_apart : {T X Z : Type 0} {live : Type 0} {K : Kind T X} {make : X → Z} {d : ℕ} {p : Parser T Z} (begins before : Option T → Bool) → Starts begins K → Apart begins before
+    → Rule live never K make d p → Rule live before K make d p
 put_apart {K = K} begins before starts apart k = put before (starts_apart begins before K starts apart) k
 
 option_form : {T X : Type 0} (begins prior : Option T → Bool) (K : Kind T X) → Form K (option begins K prior) Some
@@ -86,23 +86,23 @@ pub none_only : {T X : Type 0} (begins prior : Option T → Bool) (K : Kind T X)
 none_only begins prior K starts t e n None r is g same = (tt, tt, refl)
 none_only begins prior K starts t e n (Some x) r is g same = true_not_false (begins t) (ap begins (sym same) ∙ starts n x r is) e
 
-pub optional_exact : {T X : Type 0} (late : T → Bool) (begins prior : Option T → Bool) (K : Kind T X) → Starts begins K → (d : ℕ) (p : Parser T X) (s : State T) (b : Bool) → begins (first s.rest) ≡ b → prior (first s.rest) ≡ false
-    → Exact late K (λ x. x) d s (p s) → Exact late (option begins K prior) (λ o. o) d s (optional_by b p s)
-optional_exact late begins prior K starts d p s true e free exact =
-    formed K (option begins K prior) Some (option_form begins prior K) late (λ o. o) d s _ (some_only begins prior K _ e) (mapped_exact late K (λ x. x) Some d s (p s) exact)
-optional_exact late begins prior K starts d p s false e free exact =
-    formed (absent (λ t. begins t || prior t)) (option begins K prior) (λ _. None) (none_form begins prior K) late (λ o. o) d s _ (none_only begins prior K starts _ e)
-    (absent_exact late (λ t. begins t || prior t) None d s (or_both (begins (first s.rest)) (prior (first s.rest)) e free))
+pub optional_exact : {T X : Type 0} (begins prior : Option T → Bool) (K : Kind T X) → Starts begins K → (d : ℕ) (p : Parser T X) (s : State T) (b : Bool) → begins (first s.rest) ≡ b → prior (first s.rest) ≡ false
+    → Exact K (λ x. x) d s (p s) → Exact (option begins K prior) (λ o. o) d s (optional_by b p s)
+optional_exact begins prior K starts d p s true e free exact =
+    formed K (option begins K prior) Some (option_form begins prior K) (λ o. o) d s _ (some_only begins prior K _ e) (mapped_exact K (λ x. x) Some d s (p s) exact)
+optional_exact begins prior K starts d p s false e free exact =
+    formed (absent (λ t. begins t || prior t)) (option begins K prior) (λ _. None) (none_form begins prior K) (λ o. o) d s _ (none_only begins prior K starts _ e)
+    (absent_exact (λ t. begins t || prior t) None d s (or_both (begins (first s.rest)) (prior (first s.rest)) e free))
 
 pub option_keeps : {T X : Type 0} (begins prior : Option T → Bool) (K : Kind T X) → Starts begins K → Apart begins prior
     → (n : ℕ) (x : Option X) (r : List T) → Is (option begins K prior) n x → option_grabs begins K prior x (first r) ≡ false → prior (first (words (option begins K prior) x ++ r)) ≡ false
 option_keeps begins prior K starts apart n None r is g = or_right (begins (first r)) (prior (first r)) g
 option_keeps begins prior K starts apart n (Some x) r is g = apart _ (starts n x r is)
 
-pub perhaps : {T X : Type 0} {live : Type 0} {late : T → Bool} {K : Kind T X} {d : ℕ} {p : Parser T X} (begins prior : Option T → Bool) → Starts begins K → Apart begins prior
-    → Rule live late never K (λ x. x) d p → Rule live late prior (option begins K prior) (λ o. o) d (optional begins p)
-perhaps {late = late} {K = K} {d = d} {p = p} begins prior starts apart k = record {
-  exact = λ l s b. optional_exact late begins prior K starts d p s (begins (first s.rest)) refl b (k.exact l s refl);
+pub perhaps : {T X : Type 0} {live : Type 0} {K : Kind T X} {d : ℕ} {p : Parser T X} (begins prior : Option T → Bool) → Starts begins K → Apart begins prior
+    → Rule live never K (λ x. x) d p → Rule live prior (option begins K prior) (λ o. o) d (optional begins p)
+perhaps {K = K} {d = d} {p = p} begins prior starts apart k = record {
+  exact = λ l s b. optional_exact begins prior K starts d p s (begins (first s.rest)) refl b (k.exact l s refl);
   closes = λ n. record { tree = None; left = []; begins = refl; is = tt; few = omega arith };
   keeps = option_keeps begins prior K starts apart;
 }
@@ -161,26 +161,26 @@ module _ {T X : Type 0} (begins : Option T → Bool) (K : Kind T X) (repeats : R
   shorter : (d n : ℕ) (s : State T) (x : X) (s1 : State T) → Found K d s x s1 → length s.rest ≤ suc n → length s1.rest ≤ n
   shorter d n s x s1 f h = omega (arith, has_words (words K x) (repeats.starts s.place x [] f.is), ap length f.split, length-append (words K x) s1.rest)
 
-  module _ (late : T → Bool) (item : Parser T X) (d : ℕ) (exact : (s : State T) → Exact late K (λ x. x) d s (item s)) where
+  module _ (item : Parser T X) (d : ℕ) (exact : (s : State T) → Exact K (λ x. x) d s (item s)) where
     From : ℕ → Type 0
     From n = (prior : Option T → Bool) (found : List X) (s : State T) → length s.rest ≤ n → prior (first s.rest) ≡ false
-        → Exact late (list begins K prior) (λ xs. found ++ xs) d s (many_from begins item n found s)
+        → Exact (list begins K prior) (λ xs. found ++ xs) d s (many_from begins item n found s)
 
     stopped : (prior : Option T → Bool) (found : List X) (s : State T) → begins (first s.rest) ≡ false → prior (first s.rest) ≡ false
-        → Exact late (list begins K prior) (λ xs. found ++ xs) d s (Ok (found, s))
+        → Exact (list begins K prior) (λ xs. found ++ xs) d s (Ok (found, s))
     stopped prior found s stop free =
-        formed (absent (λ t. begins t || prior t)) (list begins K prior) (λ _. []) (empty_form prior) late (λ xs. found ++ xs) d s _ (empty_only prior _ stop)
-        (remade_exact late (absent (λ t. begins t || prior t)) (λ _. found) (λ _. found ++ []) d s _ (λ _. append-nil found)
-        (absent_exact late (λ t. begins t || prior t) found d s (or_both (begins (first s.rest)) (prior (first s.rest)) stop free)))
+        formed (absent (λ t. begins t || prior t)) (list begins K prior) (λ _. []) (empty_form prior) (λ xs. found ++ xs) d s _ (empty_only prior _ stop)
+        (remade_exact (absent (λ t. begins t || prior t)) (λ _. found) (λ _. found ++ []) d s _ (λ _. append-nil found)
+        (absent_exact (λ t. begins t || prior t) found d s (or_both (begins (first s.rest)) (prior (first s.rest)) stop free)))
 
     from_by : (n : ℕ) (prior : Option T → Bool) (found : List X) (s : State T) (b : Bool) → begins (first s.rest) ≡ b → length s.rest ≤ suc n → prior (first s.rest) ≡ false
-        → From n → Exact late (list begins K prior) (λ xs. found ++ xs) d s (if b then and_then (item s) (λ x. many_from begins item n (found ++ x ∷ [])) else Ok (found, s))
+        → From n → Exact (list begins K prior) (λ xs. found ++ xs) d s (if b then and_then (item s) (λ x. many_from begins item n (found ++ x ∷ [])) else Ok (found, s))
     unfolding From
     from_by n prior found s false e h free more = stopped prior found s e free
     from_by n prior found s true e h free more =
-        formed _ (list begins K prior) _ (one_form prior) late (λ xs. found ++ xs) d s _ (one_only prior (first s.rest) e)
-        (remade_exact late _ (λ p. (found ++ p.0 ∷ []) ++ p.1) _ d s _ (λ p. sym (append_assoc found (p.0 ∷ []) p.1))
-        (seq_exact K (λ x. list begins K (K.grabs x)) list_joins late (λ x. x) (λ x xs. (found ++ x ∷ []) ++ xs) d s (item s) (λ x. many_from begins item n (found ++ x ∷ []))
+        formed _ (list begins K prior) _ (one_form prior) (λ xs. found ++ xs) d s _ (one_only prior (first s.rest) e)
+        (remade_exact _ (λ p. (found ++ p.0 ∷ []) ++ p.1) _ d s _ (λ p. sym (append_assoc found (p.0 ∷ []) p.1))
+        (seq_exact K (λ x. list begins K (K.grabs x)) list_joins (λ x. x) (λ x xs. (found ++ x ∷ []) ++ xs) d s (item s) (λ x. many_from begins item n (found ++ x ∷ []))
         (λ x m. none_of (K.grabs x) d m) (exact s)
         (λ x s1 f. more (K.grabs x) (found ++ x ∷ []) s1 (shorter d n s x s1 f h) f.before)))
 
@@ -194,15 +194,15 @@ module _ {T X : Type 0} (begins : Option T → Bool) (K : Kind T X) (repeats : R
     from (suc n) prior found s h free = from_by n prior found s (begins (first s.rest)) refl h free (from n)
 
     pub more_exact : (prior : Option T → Bool) (found : List X) (s : State T) → prior (first s.rest) ≡ false
-        → Exact late (list begins K prior) (λ xs. found ++ xs) d s (more begins item found s)
+        → Exact (list begins K prior) (λ xs. found ++ xs) d s (more begins item found s)
     unfolding From
     more_exact prior found s free = from (length s.rest) prior found s (omega arith) free
 
 -- items behind those found so far
-pub many : {T X : Type 0} {live : Type 0} {late : T → Bool} {K : Kind T X} {d : ℕ} {item : Parser T X} (begins prior : Option T → Bool) → Repeats begins K → Apart begins prior → (found : List X)
-    → Rule live late never K (λ x. x) d item → Rule live late prior (list begins K prior) (λ xs. found ++ xs) d (more begins item found)
-many {late = late} {K = K} {d = d} {item = item} begins prior repeats apart found k = record {
-  exact = λ l s b. more_exact begins K repeats late item d (λ s. k.exact l s refl) prior found s b;
+pub many : {T X : Type 0} {live : Type 0} {K : Kind T X} {d : ℕ} {item : Parser T X} (begins prior : Option T → Bool) → Repeats begins K → Apart begins prior → (found : List X)
+    → Rule live never K (λ x. x) d item → Rule live prior (list begins K prior) (λ xs. found ++ xs) d (more begins item found)
+many {K = K} {d = d} {item = item} begins prior repeats apart found k = record {
+  exact = λ l s b. more_exact begins K repeats item d (λ s. k.exact l s refl) prior found s b;
   closes = λ n. none_of begins K repeats prior d n;
   keeps = list_keeps begins K repeats prior apart;
 }
@@ -235,8 +235,8 @@ behind_starts is t K knows n x r h = knows.yes
 pub commas_repeat : {T X : Type 0} (is : Option T → Bool) (t : T) (K : Kind T X) → Knows is t → is None ≡ false → ((x : X) → K.grabs x (Some t) ≡ false) → Repeats is (behind t K)
 commas_repeat is t K knows stop free = record { starts = behind_starts is t K knows; next = λ x u e. ap (K.grabs x) (knows.says u e) ∙ free x; at_end = stop }
 
-pub separate : {T X : Type 0} {live : Type 0} {late : T → Bool} {before : Option T → Bool} {K : Kind T X} {d : ℕ} {p : Parser T X} (is : Option T → Bool) (t : T) → Knows is t → is None ≡ false → ((x : X) → K.grabs x (Some t) ≡ false)
-    → Rule live late never K (λ x. x) d p → Rule live late before K (λ x. x) d p → Rule live late before (commas is t K) (λ xs. xs) d (separated is p)
+pub separate : {T X : Type 0} {live : Type 0} {before : Option T → Bool} {K : Kind T X} {d : ℕ} {p : Parser T X} (is : Option T → Bool) (t : T) → Knows is t → is None ≡ false → ((x : X) → K.grabs x (Some t) ≡ false)
+    → Rule live never K (λ x. x) d p → Rule live before K (λ x. x) d p → Rule live before (commas is t K) (λ xs. xs) d (separated is p)
 separate {K = K} {p = p} is t knows stop free k first_one =
     shaped (commas is t K) (λ p. p.0 ∷ p.1) (λ xs. xs) (commas_form is t K) (commas_all is t K)
     (seq (λ x. x) (λ x xs. x ∷ xs) (λ x. more is (λ s. and_then (expect is s) (λ _. p)) (x ∷ [])) first_one
@@ -279,8 +279,8 @@ listed_all : {T X : Type 0} (begins is prior : Option T → Bool) (t : T) (K : K
 listed_all begins is prior t K n [] h = (None, tt, refl)
 listed_all begins is prior t K n (x ∷ xs) h = (Some (x ∷ xs), h, refl)
 
-pub lists : {T X : Type 0} {live : Type 0} {late : T → Bool} {K : Kind T X} {d : ℕ} {p : Parser T X} (begins is prior : Option T → Bool) (t : T) → Knows is t → is None ≡ false → ((x : X) → K.grabs x (Some t) ≡ false)
-    → Starts begins K → Apart begins prior → Rule live late never K (λ x. x) d p → Rule live late prior (a_list begins is t K prior) (λ xs. xs) d (listed begins is p)
+pub lists : {T X : Type 0} {live : Type 0} {K : Kind T X} {d : ℕ} {p : Parser T X} (begins is prior : Option T → Bool) (t : T) → Knows is t → is None ≡ false → ((x : X) → K.grabs x (Some t) ≡ false)
+    → Starts begins K → Apart begins prior → Rule live never K (λ x. x) d p → Rule live prior (a_list begins is t K prior) (λ xs. xs) d (listed begins is p)
 lists {K = K} begins is prior t knows stop free starts apart k =
     shaped (a_list begins is t K prior) or_empty (λ xs. xs) (listed_form begins is prior t K) (listed_all begins is prior t K)
     (mapped or_empty (perhaps begins prior (commas_start begins is t K starts) apart (separate is t knows stop free k k)))

@@ -1,10 +1,10 @@
 -- From an exact parser of whole lists to what it says of trees and faults.
-use Rattle.std.proofs.Common.{◌≡◌, ℕ, suc, ◌+◌, ◌≤◌, max, List, [], ◌∷◌, ◌++◌, map, take, slice_get, length, Option, Some, None, Bool, true, false, if◌then◌else◌, Ok, Err, refl, sym, ap, ◌∙◌, subst, arith, inl, inr, append-nil, append_assoc, length-append}
+use Rattle.std.proofs.Common.{◌≡◌, ℕ, suc, ◌+◌, ◌≤◌, max, List, [], ◌∷◌, ◌++◌, map, take, length, Option, Some, None, Bool, true, false, if◌then◌else◌, Ok, Err, refl, sym, ap, ◌∙◌, subst, arith, inl, inr, append-nil, length-append}
 use Rattle.dpi_grammar.specs.declared.stop.Stop.TheVariants.{Memory, Syntax, TooDeep}
 use Rattle.dpi_grammar.specs.Parser.{State, Outcome, Parser, first, and_then, is_there, finish}
-use Rattle.dpi_grammar.specs.Faults.{with_end, Begins, IsViable, IsShallow, IsTree, IsUnambiguous, IsParsed, IsRefused, IsTooMuch, IsTooDeep}
+use Rattle.dpi_grammar.specs.Faults.{with_end, Begins, IsViable, IsShallow, IsTree, IsUnambiguous, IsParsed, IsRefused, IsTooMuch}
 use Rattle.dpi_grammar.proofs.Lists.{Agrees, agrees_self, true_not_false, words_append, right_split, right_join}
-use Rattle.dpi_grammar.proofs.Exact.{Kind, words, levels, Is, Viable, Found, Stuck, Refused, TooFar, OpensAt, Answer, Exact, pair}
+use Rattle.dpi_grammar.proofs.Exact.{Kind, words, levels, Is, Viable, Found, Stuck, Refused, TooFar, Answer, Exact, pair}
 use Rattle.dpi_grammar.proofs.Forms.{Form, none_begins}
 use Rattle.dpi_grammar.proofs.Rules.{Rule, never, seq, shaped}
 use Rattle.dpi_grammar.proofs.Many.{absent, absent_exact}
@@ -21,14 +21,14 @@ no_token : {T : Type 0} (t : Option T) → is_there t ≡ false → t ≡ None
 no_token None e = refl
 no_token (Some t) e = let bad : true ≡ false = e in absurd (cc)
 
-finished : {T Z : Type 0} (late : T → Bool) (z : Z) (d : ℕ) (s : State T) (b : Bool) → is_there (first s.rest) ≡ b → Exact late (absent (is_there {A = T})) (λ _. z) d s (if b then Err (Syntax s.place) else Ok (z, s))
-finished {T = T} late z d s true e = none_begins late (absent (is_there {A = T})) (λ _. z) d s (record { tree = tt; left = []; begins = refl; is = tt; few = omega arith })
+finished : {T Z : Type 0} (z : Z) (d : ℕ) (s : State T) (b : Bool) → is_there (first s.rest) ≡ b → Exact (absent (is_there {A = T})) (λ _. z) d s (if b then Err (Syntax s.place) else Ok (z, s))
+finished {T = T} z d s true e = none_begins (absent (is_there {A = T})) (λ _. z) d s (record { tree = tt; left = []; begins = refl; is = tt; few = omega arith })
     (λ n u r is g same. true_not_false (is_there (first r)) (ap is_there same ∙ e) g)
-finished {T = T} late z d s false e = absent_exact late (is_there {A = T}) z d s e
+finished {T = T} z d s false e = absent_exact (is_there {A = T}) z d s e
 
-pub at_end : {T Z : Type 0} {live : Type 0} {late : T → Bool} {d : ℕ} (before : Option T → Bool) (z : Z) → before None ≡ false → Rule live late before (absent (is_there {A = T})) (λ _. z) d (finish z)
-at_end {late = late} {d = d} before z free = record {
-  exact = λ l s b. finished late z d s (is_there (first s.rest)) refl;
+pub at_end : {T Z : Type 0} {live : Type 0} {d : ℕ} (before : Option T → Bool) (z : Z) → before None ≡ false → Rule live before (absent (is_there {A = T})) (λ _. z) d (finish z)
+at_end {d = d} before z free = record {
+  exact = λ l s b. finished z d s (is_there (first s.rest)) refl;
   closes = λ n. record { tree = tt; left = []; begins = refl; is = tt; few = omega arith };
   keeps = λ n x r is g. ap before (no_token (first r) g) ∙ free;
 }
@@ -42,8 +42,8 @@ whole_form K = record {
 }
 
 -- a tree, and then the end
-pub to_end : {T X : Type 0} {live : Type 0} {late : T → Bool} {d : ℕ} {p : Parser T X} (K : Kind T X) → ((x : X) → K.grabs x None ≡ false) → Rule live late never K (λ x. x) d p
-    → Rule live late never (whole K) (λ x. x) d (λ s. and_then (p s) finish)
+pub to_end : {T X : Type 0} {live : Type 0} {d : ℕ} {p : Parser T X} (K : Kind T X) → ((x : X) → K.grabs x None ≡ false) → Rule live never K (λ x. x) d p
+    → Rule live never (whole K) (λ x. x) d (λ s. and_then (p s) finish)
 to_end K free k = shaped (whole K) (λ p. p.0) (λ x. x) (whole_form K) (λ n z h. ((z, tt), right_join n _ (K.told z).atoms [] refl h tt, refl))
     (seq (λ x. x) (λ x _. x) finish k (λ x. at_end (K.grabs x) x (free x)))
 
@@ -57,10 +57,6 @@ take_one_more : {T : Type 0} (seen rest : List T) → take (suc (length seen)) (
 take_one_more [] [] = refl
 take_one_more [] (t ∷ rest) = refl
 take_one_more (s ∷ seen) rest = ap (λ l. Some s ∷ l) (take_one_more seen rest)
-
-slice_get_front : {T : Type 0} (front : List T) (t : T) (rest : List T) → slice_get (front ++ t ∷ rest) (length front) ≡ Some t
-slice_get_front [] t rest = refl
-slice_get_front (s ∷ front) t rest = slice_get_front front t rest
 
 begins_agrees : {T : Type 0} (us seen rest : List T) → Begins (map Some seen ++ first rest ∷ []) (with_end us) → Agrees us seen rest
 begins_agrees [] [] rest b = let e = b.1 in cc
@@ -144,47 +140,37 @@ module _ {T X : Type 0} (K : Kind T X) (limit : ℕ) (ts : List T) where
         },
       )
 
-  too_much : (late : T → Bool) (at n : ℕ) (m : TooFar (whole K) late limit (start ts) at) → n ≡ length m.seen → IsTooMuch K.told limit ts n
-  too_much late at n m e = record {
-    before = viable_before m.seen m.rest n m.stuck.split e m.stuck.viable;
-    deeper = goes_on _ m.seen m.rest n e m.stuck m.deep m.deep_is m.goes_on;
-    refused = never_viable (λ y. levels K y ≤ limit) m.seen m.rest n e m.stuck;
-  }
-
-  too_deep_by : (late : T → Bool) (at : ℕ) (m : TooFar (whole K) late limit (start ts) at) → OpensAt late 0 m.seen at → (at ≤ length ts) × IsTooDeep K.told late limit ts at
-  too_deep_by late at m (inl h) =
-      let e : at ≡ length m.seen = omega (arith, h) in
-      (within_list m.seen m.rest at m.stuck.split (omega (arith, e)), inl (too_much late at at m e))
-  too_deep_by late at m (inr h) =
-      let e : at ≡ length h.0 = omega (arith, h.4) in
-      let more : at + 1 ≡ length m.seen = omega (arith, e, ap length h.2, length-append h.0 (h.1 ∷ [])) in
-      let split : ts ≡ h.0 ++ h.1 ∷ m.rest = m.stuck.split ∙ ap (λ l. l ++ m.rest) h.2 ∙ append_assoc h.0 (h.1 ∷ []) m.rest in (
-        within_list m.seen m.rest at m.stuck.split (omega (arith, more)),
-        inr (h.1, ap (λ n. slice_get ts n) e ∙ ap (λ l. slice_get l (length h.0)) split ∙ slice_get_front h.0 h.1 m.rest, h.3, too_much late at (at + 1) m more),
+  too_much : (at : ℕ) → TooFar (whole K) limit (start ts) at → (at ≤ length ts) × IsTooMuch K.told limit ts at
+  too_much at m =
+      let e : at ≡ length m.seen = omega (arith, m.place) in (
+        within_list m.seen m.rest at m.stuck.split (omega (arith, e)),
+        record {
+          before = viable_before m.seen m.rest at m.stuck.split e m.stuck.viable;
+          deeper = goes_on _ m.seen m.rest at e m.stuck m.deep m.deep_is m.goes_on;
+          refused = never_viable (λ y. levels K y ≤ limit) m.seen m.rest at e m.stuck;
+        },
       )
 
-  module _ {late : T → Bool} {p : Parser T X} (k : Rule (Unit {0}) late never (whole K) (λ x. x) limit p) where
-    at_start : Exact late (whole K) (λ x. x) limit (start ts) (p (start ts))
+  module _ {p : Parser T X} (k : Rule (Unit {0}) never (whole K) (λ x. x) limit p) where
+    at_start : Exact (whole K) (λ x. x) limit (start ts) (p (start ts))
     at_start = k.exact tt (start ts) refl
 
     pub when_read : (x : X) (after : State T) → p (start ts) ≡ Ok (x, after) → IsParsed K.told limit ts x
     when_read x after read =
-        let m = (subst (λ o. Exact late (whole K) (λ x. x) limit (start ts) o) read at_start).answer in
+        let m = (subst (λ o. Exact (whole K) (λ x. x) limit (start ts) o) read at_start).answer in
         subst (λ x. IsParsed K.told limit ts x) m.is (parsed m.tree after m.found)
 
     pub when_refused : (at : ℕ) → p (start ts) ≡ Err (Syntax at) → (at ≤ length ts) × IsRefused K.told limit ts at
-    when_refused at read = refused at (subst (λ o. Exact late (whole K) (λ x. x) limit (start ts) o) read at_start).answer
+    when_refused at read = refused at (subst (λ o. Exact (whole K) (λ x. x) limit (start ts) o) read at_start).answer
 
-    pub when_too_deep : (at : ℕ) → p (start ts) ≡ Err (TooDeep at) → (at ≤ length ts) × IsTooDeep K.told late limit ts at
-    when_too_deep at read =
-        let m = (subst (λ o. Exact late (whole K) (λ x. x) limit (start ts) o) read at_start).answer in
-        too_deep_by late at m m.place
+    pub when_too_deep : (at : ℕ) → p (start ts) ≡ Err (TooDeep at) → (at ≤ length ts) × IsTooMuch K.told limit ts at
+    when_too_deep at read = too_much at (subst (λ o. Exact (whole K) (λ x. x) limit (start ts) o) read at_start).answer
 
 -- ---- one tree
 
-no_other : {T X : Type 0} (late : T → Bool) (K : Kind T X) (d : ℕ) (x y : X) → IsTree K.told x → IsTree K.told y → words K x ≡ words K y → levels K x ≤ d → levels K y ≤ d
-    → (o : Outcome T X) → Answer late (whole K) (λ x. x) d (start (words K x)) o → x ≡ y
-no_other late K d x y is is2 same few few2 (Ok z) m =
+no_other : {T X : Type 0} (K : Kind T X) (d : ℕ) (x y : X) → IsTree K.told x → IsTree K.told y → words K x ≡ words K y → levels K x ≤ d → levels K y ≤ d
+    → (o : Outcome T X) → Answer (whole K) (λ x. x) d (start (words K x)) o → x ≡ y
+no_other K d x y is is2 same few few2 (Ok z) m =
     let f = m.found in
     let e = no_rest K d (words K x) z.1.rest f.before in
     let prints : words K x ≡ words K m.tree = f.split ∙ ap (λ r. words K m.tree ++ r) e ∙ append-nil (words K m.tree) in
@@ -192,14 +178,14 @@ no_other late K d x y is is2 same few few2 (Ok z) m =
     let one : x ≡ m.tree = f.only x [] is refl (subst (λ w. Agrees (w ++ []) (words K m.tree) z.1.rest) (sym prints) self) in
     let two : y ≡ m.tree = f.only y [] is2 refl (subst (λ w. Agrees (w ++ []) (words K m.tree) z.1.rest) (sym (sym same ∙ prints)) self) in
     one ∙ sym two
-no_other late K d x y is is2 same few few2 (Err Memory) m = absurd m
-no_other late K d x y is is2 same few few2 (Err (Syntax at)) m =
+no_other K d x y is is2 same few few2 (Err Memory) m = absurd m
+no_other K d x y is is2 same few few2 (Err (Syntax at)) m =
     absurd (m.stuck.never x [] is tt refl (subst (λ w. Agrees w m.seen m.rest) (sym (append-nil (words K x) ∙ m.stuck.split)) (agrees_self m.seen m.rest m.rest refl)))
-no_other late K d x y is is2 same few few2 (Err (TooDeep at)) m =
+no_other K d x y is is2 same few few2 (Err (TooDeep at)) m =
     absurd (m.stuck.never x [] is few refl (subst (λ w. Agrees w m.seen m.rest) (sym (append-nil (words K x) ∙ m.stuck.split)) (agrees_self m.seen m.rest m.rest refl)))
 
 -- what an exact parser reads at each number of levels has one tree at most
-pub unambiguous : {T X : Type 0} (late : T → Bool) (K : Kind T X) (p : ℕ → Parser T X) → ((d : ℕ) → Rule (Unit {0}) late never (whole K) (λ x. x) d (p d)) → IsUnambiguous K.told
-unambiguous late K p k x y is is2 same =
+pub unambiguous : {T X : Type 0} (K : Kind T X) (p : ℕ → Parser T X) → ((d : ℕ) → Rule (Unit {0}) never (whole K) (λ x. x) d (p d)) → IsUnambiguous K.told
+unambiguous K p k x y is is2 same =
     let d = max (levels K x) (levels K y) in
-    no_other late K d x y is is2 same (omega arith) (omega arith) (p d (start (words K x))) ((k d).exact tt (start (words K x)) refl).answer
+    no_other K d x y is is2 same (omega arith) (omega arith) (p d (start (words K x))) ((k d).exact tt (start (words K x)) refl).answer

@@ -1,8 +1,7 @@
 -- Parsers that choose by the next token, or by the one behind it.
-use Rattle.std.specs.Prelude.{ℕ, zero, suc, Bool, true, false, ◌⊎◌, List, [], ◌∷◌, ◌++◌, length, Option, Some, None, Err, if◌then◌else◌}
+use Rattle.std.specs.Prelude.{ℕ, zero, suc, Bool, true, false, ◌⊎◌, List, [], ◌∷◌, ◌++◌, length, Option, Some, None, if◌then◌else◌}
 use Rattle.std.proofs.Common.{inl, inr}
-use Rattle.dpi_grammar.specs.declared.stop.Stop.TheVariants.{TooDeep}
-use Rattle.dpi_grammar.specs.Parser.{Parser, and_then, pure, ◌>>=◌, first, expect, refuse}
+use Rattle.dpi_grammar.specs.Parser.{Parser, and_then, pure, ◌>>=◌, first, expect, level, refuse}
 
 abbrev pub choose_by : {T A : Type 0} → Bool → Parser T A → Parser T A → Parser T A
 choose_by true p q = p
@@ -12,13 +11,12 @@ choose_by false p q = q
 abbrev pub choose : {T A : Type 0} → (Option T → Bool) → Parser T A → Parser T A → Parser T A
 choose begins p q = λ s. choose_by (begins (first s.rest)) p q s
 
--- ---- a token that opens one of two parts, which the token behind it tells apart
+-- ---- a token before one of two parts, which the token behind it tells apart
 
--- The first test is for the part that opens no level, the second for the one that does. The number is that of the token that opens.
+-- The first test is for the part that opens no level, the second for the one that does. The number is that of the token before them.
 abbrev pub opened_by : {T E A : Type 0} → (ℕ → Parser T A) → (ℕ → E → Parser T A) → Option E → ℕ → Bool → Bool → Parser T A
 opened_by flat deep inner k true b = flat k
-opened_by flat deep None k false true = λ s. Err (TooDeep k)
-opened_by flat deep (Some e) k false true = deep k e
+opened_by flat deep inner k false true = level inner (deep k)
 opened_by flat deep inner k false false = refuse
 
 abbrev pub opened : {T E A : Type 0} → (Option T → Bool) → (Option T → Bool) → (Option T → Bool) → (ℕ → Parser T A) → (ℕ → E → Parser T A) → Option E → Parser T A

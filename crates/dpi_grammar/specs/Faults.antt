@@ -1,5 +1,5 @@
 -- Which tokens can go on to a tree, and which token is refused. Nothing here knows of a parser.
-use Rattle.std.specs.Prelude.{◌≡◌, ℕ, ◌+◌, ◌≤◌, Bool, true, ◌⊎◌, List, [], ◌∷◌, ◌++◌, map, take, slice_get, Option, Some, None}
+use Rattle.std.specs.Prelude.{◌≡◌, ℕ, zero, suc, ◌+◌, ◌≤◌, Bool, false, List, [], ◌∷◌, ◌++◌, map, take, slice_get, Option, Some, None, if◌then◌else◌}
 use Rattle.dpi_grammar.specs.Told.{Told, words_in, IsRight}
 
 -- the end counts as a token
@@ -9,6 +9,17 @@ with_end ts = map Some ts ++ None ∷ []
 -- the whole list begins with what was seen
 abbrev pub Begins : {A : Type 0} → List A → List A → Type 0
 Begins seen whole = (more : List _) × (whole ≡ seen ++ more)
+
+-- a token that is known for what it is by the next one alone
+abbrev pub is_late : {T : Type 0} → (T → Bool) → Option T → Bool
+is_late late None = false
+is_late late (Some t) = late t
+
+-- The token that opens the level that shows at this one: the token before it, where that is one that is known for what it is by the
+-- next token alone, else this one.
+abbrev pub opener : {T : Type 0} → (T → Bool) → List T → ℕ → ℕ
+opener late ts zero = zero
+opener late ts (suc n) = if is_late late (slice_get ts n) then n else suc n
 
 module _ {T X : Type 0} (told : X → Told T) where
   -- the tokens of a tree
@@ -49,8 +60,8 @@ module _ {T X : Type 0} (told : X → Told T) where
     pub deeper : IsViable IsTree (take (at + 1) (with_end ts))
     pub refused : IsViable (IsShallow limit) (take (at + 1) (with_end ts)) → ⊥
 
-  -- This token opens a level too many. It is refused itself, or it is one that is known for what it is by the next token alone,
-  -- and that one is refused.
-  abbrev pub IsTooDeep : (T → Bool) → ℕ → List T → ℕ → Type 0
-  IsTooDeep late limit ts at =
-      IsTooMuch limit ts at ⊎ ((t : T) × (slice_get ts at ≡ Some t) × (late t ≡ true) × IsTooMuch limit ts (at + 1))
+  -- only trees of too many levels go on with some token, and this is the one that opens the first of these levels
+  pub record IsTooDeep (late : T → Bool) (limit : ℕ) (ts : List T) (at : ℕ) : Type 0 where
+    pub shows : ℕ
+    pub too_much : IsTooMuch limit ts shows
+    pub opens : at ≡ opener late ts shows

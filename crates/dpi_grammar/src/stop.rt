@@ -8,7 +8,7 @@ use std::alloc::{AllocError, AllocFailed};
 pub enum Stop {
     /// No tree goes on with this token.
     Syntax(u32),
-    /// Only trees of too many levels do, and this token opens the first of these levels.
+    /// Only trees of too many levels do.
     TooDeep(u32),
     /// No memory was found.
     Memory,

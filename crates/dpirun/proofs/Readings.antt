@@ -1,8 +1,8 @@
 -- What a parser's or a lexer's fault says of a text.
-use Rattle.std.proofs.Common.{◌≡◌, ◌≤◌, ◌<◌, ◌+◌, ℕ, Bool, true, false, List, [], ◌∷◌, Option, Some, None, length, map, take, replicate, IsSomeAnd, nat_lt, refl, sym, ap, subst, ◌∙◌, arith, inl, inr}
+use Rattle.std.proofs.Common.{◌≡◌, ◌≤◌, ◌<◌, ◌+◌, ℕ, zero, suc, Bool, true, false, List, [], ◌∷◌, Option, Some, None, length, slice_get, if◌then◌else◌, map, take, replicate, IsSomeAnd, nat_lt, refl, sym, ap, subst, ◌∙◌, arith}
 use Rattle.std.proofs.lemmas.Bool.Decides.{nat_tests}
 use Rattle.std.proofs.lemmas.List.{take_all, length-map, length-append, length-replicate}
-use Rattle.dpi_grammar.specs.Faults.{with_end, Begins, IsViable, IsShallow, tokens_of, IsRefused, IsTooMuch, IsTooDeep}
+use Rattle.dpi_grammar.specs.Faults.{with_end, Begins, is_late, opener, IsViable, IsShallow, tokens_of, IsRefused, IsTooMuch, IsTooDeep}
 use Rattle.dpi_grammar.specs.Told.{Told}
 use Rattle.dpi_ports.specs.Told.{Contents, Holds, HoldsMore}
 use Rattle.dpirun.specs.Answer.{IsRefusedAs}
@@ -22,6 +22,14 @@ module _ {T X : Type 0} (told : X → Told T) (limit : ℕ) (ts : List T) where
       take_all at (with_end ts) (omega (arith, ends, far))
       ∙ sym (take_all (at + 1) (with_end ts) (omega (arith, ends, far)))
 
+  opener_within : (late : T → Bool) (n : ℕ) → opener late ts n ≤ n
+  opener_within late zero = omega arith
+  opener_within late (suc n) = by (is_late late (slice_get ts n))
+    where
+      by : (b : Bool) → (if b then n else suc n) ≤ suc n
+      by true = omega arith
+      by false = omega arith
+
   by_cases : (at : ℕ) → (length ts < at → ⊥) → at ≤ length ts
   by_cases at never = by (nat_lt (length ts) at) refl
     where
@@ -38,8 +46,10 @@ module _ {T X : Type 0} (told : X → Told T) (limit : ℕ) (ts : List T) where
   too_much_within at r = by_cases at (λ far. r.refused (subst (λ l. IsViable told (IsShallow told limit) l) (same_front at far) r.before))
 
   pub too_deep_within : (late : T → Bool) (at : ℕ) → IsTooDeep told late limit ts at → at ≤ length ts
-  too_deep_within late at (inl r) = too_much_within at r
-  too_deep_within late at (inr r) = let h : at + 1 ≤ length ts = too_much_within (at + 1) r.3 in omega (arith, h)
+  too_deep_within late at r =
+      let shown : r.shows ≤ length ts = too_much_within r.shows r.too_much in
+      let before : opener late ts r.shows ≤ r.shows = opener_within late r.shows in
+      omega (arith, shown, before, r.opens)
 
 -- a text past the limit is refused in either language
 long_is_refused : (language : Language) (text : List ℕ) → 1048576 < length text → IsRefusal language text TooLong 0

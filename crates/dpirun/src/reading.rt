@@ -102,6 +102,7 @@ fn sv_parsed(alloc: Global, tokens: &Tokens) -> Result<(), ReadFault>
 }
 
 // that they are a C file's
+#[tactic(auto, using(crate::proofs::Readings::refused_within, crate::proofs::Readings::too_deep_within))]
 fn c_parsed(alloc: Global, tokens: &Tokens) -> Result<(), ReadFault>
     requires text { IsText tokens.now.text }
     requires tokens { lexed_as languages.C tokens.now.text ≡ Ok tokens.now.tokens }
@@ -109,13 +110,17 @@ fn c_parsed(alloc: Global, tokens: &Tokens) -> Result<(), ReadFault>
     ensures refused { IfErr result (WhenRefused (IsOf languages.C tokens.now.text)) }
     ensures read { result ≢ Err faults.Unread }
 {
-    let (code, token) = match c_parse::parse(alloc, tokens) {
+    let refusal = match c_parse::parse(alloc, tokens) {
         Ok(_) => return Ok(()),
-        Err(c_parse::ParseFault::Syntax { token }) => (Code::Syntax, token),
-        Err(c_parse::ParseFault::TooDeep { token }) => (Code::TooDeep, token),
+        Err(c_parse::ParseFault::Syntax { token }) => {
+            Refusal::at_token(tokens, token, Code::Syntax)
+        }
+        Err(c_parse::ParseFault::TooDeep { token }) => {
+            Refusal::at_token(tokens, token, Code::TooDeep)
+        }
         Err(c_parse::ParseFault::NoMemory) => return Err(ReadFault::NoMemory),
     };
-    Err(ReadFault::Refused(Refusal::at_token(tokens, token, code)))
+    Err(ReadFault::Refused(refusal))
 }
 
 // that they are a file's of the language

@@ -38,21 +38,21 @@ a_label = record { told = label_told; grabs = λ _ _. false }
 
 -- ---- one token
 
-pub name_rule : {live : Type 0} {late : Word → Bool} {before : Option Word → Bool} {d : ℕ} → Apart (is classes.Name) before → Rule live late before a_name (λ x. x) d spec.name
+pub name_rule : {live : Type 0} {before : Option Word → Bool} {d : ℕ} → Apart (is classes.Name) before → Rule live before a_name (λ x. x) d spec.name
 unfolding spec.name
 name_rule {before = before} apart =
     told_as a_name (λ (p : ℕ × List ℕ). let n : Name = record { token = p.0; bytes = p.1 } in n) (λ x. x) (λ p. refl) (λ p t. refl) (λ n. ((n.token, n.bytes), refl))
     (numbered (λ k b. let n : Name = record { token = k; bytes = b } in n) (λ k s. and_then (token (bytes_if classes.Name) s) (λ b s. _))
     (λ k. mapped (λ b. let n : Name = record { token = k; bytes = b } in n) (tokened (bytes_if classes.Name) is_name a_word name_reader (λ b good. apart _ (name_class b good)) (codes "a") refl)))
 
-pub number_rule : {live : Type 0} {late : Word → Bool} {before : Option Word → Bool} {d : ℕ} → Apart (is classes.Number) before → Rule live late before a_number (λ x. x) d spec.number
+pub number_rule : {live : Type 0} {before : Option Word → Bool} {d : ℕ} → Apart (is classes.Number) before → Rule live before a_number (λ x. x) d spec.number
 unfolding spec.number
 number_rule {before = before} apart =
     told_as a_number (λ (p : ℕ × List ℕ). let n : Number = record { token = p.0; bytes = p.1 } in n) (λ x. x) (λ p. refl) (λ p t. refl) (λ n. ((n.token, n.bytes), refl))
     (numbered (λ k b. let n : Number = record { token = k; bytes = b } in n) (λ k s. and_then (token (bytes_if classes.Number) s) (λ b s. _))
     (λ k. mapped (λ b. let n : Number = record { token = k; bytes = b } in n) (plainly (bytes_if classes.Number) number_word number_reader (λ b. apart _ (number_class b)) [])))
 
-pub text_rule : {live : Type 0} {late : Word → Bool} {before : Option Word → Bool} {d : ℕ} → Apart (is classes.Text) before → Rule live late before a_text (λ x. x) d spec.text
+pub text_rule : {live : Type 0} {before : Option Word → Bool} {d : ℕ} → Apart (is classes.Text) before → Rule live before a_text (λ x. x) d spec.text
 unfolding spec.text
 text_rule {before = before} apart =
     told_as a_text (λ (p : ℕ × List ℕ). let n : Text = record { token = p.0; bytes = p.1 } in n) (λ x. x) (λ p. refl) (λ p t. refl) (λ n. ((n.token, n.bytes), refl))
@@ -83,7 +83,7 @@ minus_grabs before (Some u) t = refl
 minus_starts : Starts (is classes.Minus) (one (word_of classes.Minus))
 minus_starts n x r h = (knows classes.Minus refl).yes
 
-minus_rule : {live : Type 0} {late : Word → Bool} {before : Option Word → Bool} {d : ℕ} → Apart (is classes.Minus) before → Rule live late before (a_minus before) (λ x. x) d spec.minus
+minus_rule : {live : Type 0} {before : Option Word → Bool} {d : ℕ} → Apart (is classes.Minus) before → Rule live before (a_minus before) (λ x. x) d spec.minus
 unfolding spec.minus
 minus_rule {before = before} apart =
     told_as (a_minus before) is_there (λ b. b) (minus_tells before) (minus_grabs before) minus_all
@@ -103,7 +103,7 @@ number_free : (before : Option Word → Bool) → Apart begins_bound before → 
 number_free before apart true t e = refl
 number_free before apart false t e = or_both _ _ (apart_of classes.Number classes.Minus refl t e) (right_apart before apart t e)
 
-pub bound_rule : {live : Type 0} {late : Word → Bool} {before : Option Word → Bool} {d : ℕ} → Apart begins_bound before → Rule live late before a_bound (λ x. x) d spec.bound
+pub bound_rule : {live : Type 0} {before : Option Word → Bool} {d : ℕ} → Apart begins_bound before → Rule live before a_bound (λ x. x) d spec.bound
 unfolding spec.bound
 bound_rule {before = before} apart =
     told_as a_bound (λ (p : ℕ × (Bool × Number)). let b : Bound = record { token = p.0; negative = p.1.0; number = p.1.1 } in b) (λ x. x) (λ p. refl) (λ p t. refl)
@@ -115,7 +115,7 @@ bound_rule {before = before} apart =
 
 -- ---- a label
 
-pub label_rule : {live : Type 0} {late : Word → Bool} {before : Option Word → Bool} {d : ℕ} → Apart (is classes.Colon) before → Rule live late before a_label (λ x. x) d spec.label
+pub label_rule : {live : Type 0} {before : Option Word → Bool} {d : ℕ} → Apart (is classes.Colon) before → Rule live before a_label (λ x. x) d spec.label
 unfolding spec.label
 label_rule {before = before} apart =
     told_as a_label (λ (p : ℕ × Name). let l : Label = record { token = p.0; name = p.1 } in l) (λ x. x) (λ p. refl) (λ p t. refl) (λ l. ((l.token, l.name), refl))
@@ -130,6 +130,6 @@ label_starts n x r h = (knows classes.Colon refl).yes
 abbrev pub a_label_or_none : (Option Word → Bool) → Kind Word (Option Label)
 a_label_or_none before = option (is classes.Colon) a_label before
 
-pub optional_label_rule : {live : Type 0} {late : Word → Bool} {before : Option Word → Bool} {d : ℕ} → Apart (is classes.Colon) before
-    → Rule live late before (a_label_or_none before) (λ x. x) d spec.optional_label
+pub optional_label_rule : {live : Type 0} {before : Option Word → Bool} {d : ℕ} → Apart (is classes.Colon) before
+    → Rule live before (a_label_or_none before) (λ x. x) d spec.optional_label
 optional_label_rule {before = before} apart = perhaps (is classes.Colon) before label_starts apart (label_rule (λ t e. refl))

@@ -109,7 +109,7 @@ impl<'a> Cursor<'a> {
         Stop::Syntax(self.place)
     }
 
-    /// That the next token opens a level too many.
+    /// That only trees of too many levels go on with the next token.
     pub fn too_deep(&self) -> Stop
         ensures { result ≡ Stop.TooDeep self.now.place }
     {

@@ -90,15 +90,15 @@ others_off x n ([], u) r h g = word_is_not classes.OpenBrace classes.CloseBrace 
 others_off x n (y ∷ ys, u) r h g = word_is_not classes.OpenBrace classes.Comma refl refl
 
 -- what reads them, where the parser of the expressions inside is exact
-module _ {live : Type 0} {late : Word → Bool} {d : ℕ} {e : Parses Expr} (good : Good late live d e) where
-  others_rule : (k : ℕ) (x : Expr) → Rule live late (an_expr.grabs x) (others x) (λ p. forms.Concatenation k (x ∷ p.0)) d (spec.concatenation_tail e k x)
+module _ {live : Type 0} {d : ℕ} {e : Parses Expr} (good : Good live d e) where
+  others_rule : (k : ℕ) (x : Expr) → Rule live (an_expr.grabs x) (others x) (λ p. forms.Concatenation k (x ∷ p.0)) d (spec.concatenation_tail e k x)
   unfolding spec.concatenation_tail
   others_rule k x = seq (λ ys. x ∷ ys) (λ ys _. forms.Concatenation k (x ∷ ys)) (λ xs s. and_then (expect (is classes.CloseBrace) s) (λ _ s. Ok (forms.Concatenation k xs, s)))
       (more_exprs_by_rule good (an_expr.grabs x) (expr_apart classes.Comma refl refl x) (x ∷ []))
       (λ ys. last (is classes.CloseBrace) (word_of classes.CloseBrace) (forms.Concatenation k (x ∷ ys)) (knows classes.CloseBrace refl)
       (more_stop (an_expr.grabs x) classes.CloseBrace refl refl refl (expr_stops classes.CloseBrace refl refl x) ys))
 
-  counted_rule : (k : ℕ) (m : Number) (before : Option Word → Bool) → before (Some a_brace) ≡ false → Rule live late before (counted_if true) (λ p. forms.Repetition k m p.0) d (spec.repetition_behind e k (Some m))
+  counted_rule : (k : ℕ) (m : Number) (before : Option Word → Bool) → before (Some a_brace) ≡ false → Rule live before (counted_if true) (λ p. forms.Repetition k m p.0) d (spec.repetition_behind e k (Some m))
   counted_rule k m before free =
       shaped (counted_if true) (λ p. p) (λ p. forms.Repetition k m p.0) counted_form (λ n p h. (p, h.1, refl))
       (token_then (is classes.OpenBrace) a_brace (knows classes.OpenBrace refl) free
@@ -106,11 +106,11 @@ module _ {live : Type 0} {late : Word → Bool} {d : ℕ} {e : Parses Expr} (goo
       (λ xs. token_then (is classes.CloseBrace) (word_of classes.CloseBrace) (knows classes.CloseBrace refl) (exprs_stop classes.CloseBrace refl refl refl xs)
       (last (is classes.CloseBrace) (word_of classes.CloseBrace) (forms.Repetition k m xs) (knows classes.CloseBrace refl) refl))))
 
-  tail_by : (k : ℕ) (x : Expr) (o : Option Number) → Rule live late (an_expr.grabs x) (a_tail (is_there o) x) (tailed k x o) d (λ s. if is classes.OpenBrace (first s.rest) then spec.repetition_behind e k o s else spec.concatenation_tail e k x s)
+  tail_by : (k : ℕ) (x : Expr) (o : Option Number) → Rule live (an_expr.grabs x) (a_tail (is_there o) x) (tailed k x o) d (λ s. if is classes.OpenBrace (first s.rest) then spec.repetition_behind e k o s else spec.concatenation_tail e k x s)
   tail_by k x None = refuse_or (is classes.OpenBrace) (an_expr.grabs x) (counted_if false) (others x) not_counted (others_off x) (others_rule k x)
   tail_by k x (Some m) = if_rule (is classes.OpenBrace) (counted_starts true) (others_off x) (counted_rule k m (an_expr.grabs x) (expr_stops classes.OpenBrace refl refl x)) (others_rule k x)
 
-  pub braces_by_rule : Rule live late never braces braces_made d (spec.braces_by e)
+  pub braces_by_rule : Rule live never braces braces_made d (spec.braces_by e)
   unfolding spec.braces_by spec.braces_tail spec.repetition_tail
   braces_by_rule = numbered (λ k p. tailed k p.0 (number_of p.0) p.1) (λ k s. and_then (expect (is classes.OpenBrace) s) (λ _ s. and_then (e s) (λ x. spec.braces_tail e k x)))
       (λ k. token_then (is classes.OpenBrace) a_brace (knows classes.OpenBrace refl) refl

@@ -50,8 +50,8 @@ terms_end prior (x ∷ xs) t = terms_end (a_term.grabs x) xs t
 chain_grabs : (k : ℕ) (x : Operand) (xs : List Term) (t : Option Word) → a_chain.grabs (chain k x xs) t ≡ (list begins_term a_term (an_operand.grabs x)).grabs xs t
 chain_grabs k x xs t = ap (λ g. g.grabs t) (chain_grabs_are k x xs) ∙ ap (λ b. begins_term t || b) (terms_end (an_operand.grabs x) xs t)
 
-module _ {live : Type 0} {late : Word → Bool} {d : ℕ} (inner : spec.Inner) (primary_rule : Rule live late never a_primary (λ x. x) d (spec.primary inner)) where
-  pub operand_rule : Rule live late never an_operand (λ x. x) d (spec.operand inner)
+module _ {live : Type 0} {d : ℕ} (inner : spec.Inner) (primary_rule : Rule live never a_primary (λ x. x) d (spec.primary inner)) where
+  pub operand_rule : Rule live never an_operand (λ x. x) d (spec.operand inner)
   unfolding spec.operand
   operand_rule =
       told_as an_operand (λ (p : ℕ × (List Prefix × Primary)). operand p.0 p.1.0 p.1.1) (λ x. x) (λ p. operand_tells p.0 p.1.0 p.1.1) (λ p t. ap (λ g. g.grabs t) (operand_grabs_are p.0 p.1.0 p.1.1))
@@ -62,7 +62,7 @@ module _ {live : Type 0} {late : Word → Bool} {d : ℕ} (inner : spec.Inner) (
 
   -- ---- terms
 
-  pub term_rule : Rule live late never a_term (λ x. x) d (spec.term inner)
+  pub term_rule : Rule live never a_term (λ x. x) d (spec.term inner)
   unfolding spec.term
   term_rule =
       told_as a_term (λ (p : ℕ × (BinaryOperator × Operand)). term p.0 p.1.0 p.1.1) (λ x. x) (λ p. term_tells p.0 p.1.0 p.1.1) (λ p t. ap (λ g. g.grabs t) (term_grabs_are p.0 p.1.0 p.1.1))
@@ -74,7 +74,7 @@ module _ {live : Type 0} {late : Word → Bool} {d : ℕ} (inner : spec.Inner) (
 
   -- ---- chains
 
-  pub chain_rule : Rule live late never a_chain (λ x. x) d (spec.chain inner)
+  pub chain_rule : Rule live never a_chain (λ x. x) d (spec.chain inner)
   unfolding spec.chain
   chain_rule =
       told_as a_chain (λ (p : ℕ × (Operand × List Term)). chain p.0 p.1.0 p.1.1) (λ x. x) (λ p. chain_tells p.0 p.1.0 p.1.1) (λ p t. chain_grabs p.0 p.1.0 p.1.1 t)
@@ -89,7 +89,7 @@ module _ {live : Type 0} {late : Word → Bool} {d : ℕ} (inner : spec.Inner) (
 abbrev flat_choice : Kind Word (ℕ × (Expr × Expr))
 flat_choice = pair (place never) (λ _. behind (word_of classes.Question) (pair an_expr (λ _. behind (word_of classes.Colon) an_expr)))
 
-flat_rule : {live : Type 0} {late : Word → Bool} {d : ℕ} {e : Parses Expr} → Good late live d e → Rule live late never flat_choice (λ p. choice p.0 p.1.0 p.1.1) d (spec.choice_by e)
+flat_rule : {live : Type 0} {d : ℕ} {e : Parses Expr} → Good live d e → Rule live never flat_choice (λ p. choice p.0 p.1.0 p.1.1) d (spec.choice_by e)
 unfolding spec.choice_by
 flat_rule {e = e} good =
     numbered (λ k p. choice k p.0 p.1) (λ k s. and_then (expect (is classes.Question) s) (λ _ s. and_then (e s) (λ x s. and_then (expect (is classes.Colon) s) (λ _ s. and_then (e s) (λ y s. Ok (choice k x y, s))))))
@@ -102,12 +102,12 @@ unfolding is_class
 no_question_at_end = refl
 
 -- the part of a conditional from its "?" on opens a level
-choice_open : (late : Word → Bool) → Opens (Good late) late (is classes.Question) (word_of classes.Question) a_choice spec.choice_by
-choice_open late = record {
+choice_open : Opens Good (is classes.Question) (word_of classes.Question) a_choice spec.choice_by
+choice_open = record {
   rule = λ live m e good. told_as a_choice (λ (p : ℕ × (Expr × Expr)). choice p.0 p.1.0 p.1.1) (λ x. x) (λ p. choice_tells p.0 p.1.0 p.1.1) (λ p t. ap (λ g. g.grabs t) (choice_grabs_are p.0 p.1.0 p.1.1))
       (λ x. (((out-Choice x).token, ((out-Choice x).yes, (out-Choice x).no)), roll-out-Choice x)) (deeper_rule (flat_rule good));
   some = refuse;
-  dead = λ m. no_expr late m;
+  dead = λ m. no_expr m;
   knows = knows classes.Question refl;
   stop = no_question_at_end;
   starts = choice_starts;
@@ -119,11 +119,11 @@ expr_grabs k c None t = refl
 expr_grabs k c (Some x) t = refl
 
 -- an expression, where primaries are exact
-pub expr_in_rule : {late : Word → Bool} (d : ℕ) (inner : spec.Inner) → Inside (Good late) d inner → Rule (Unit {0}) late never a_primary (λ x. x) d (spec.primary inner) → Rule (Unit {0}) late never an_expr (λ x. x) d (spec.expr_in inner)
+pub expr_in_rule : (d : ℕ) (inner : spec.Inner) → Inside Good d inner → Rule (Unit {0}) never a_primary (λ x. x) d (spec.primary inner) → Rule (Unit {0}) never an_expr (λ x. x) d (spec.expr_in inner)
 unfolding spec.expr_in
-expr_in_rule {late = late} d inner h primary_rule =
+expr_in_rule d inner h primary_rule =
     told_as an_expr (λ (p : ℕ × (Chain × Option Choice)). expr p.0 p.1.0 p.1.1) (λ x. x) (λ p. expr_tells p.0 p.1.0 p.1.1) (λ p t. ap (λ g. g.grabs t) (expr_grabs_are p.0 p.1.0 p.1.1) ∙ expr_grabs p.0 p.1.0 p.1.1 t)
     (λ x. (((out-Expr x).token, ((out-Expr x).chain, (out-Expr x).choice)), roll-out-Expr x))
     (numbered (λ k p. expr k p.0 p.1) (λ k s. and_then (spec.chain inner s) (λ c s. and_then (spec.choice_in inner s) (λ o s. Ok (expr k c o, s))))
     (λ k. seq (λ c. c) (λ c o. expr k c o) (λ c s. and_then (spec.choice_in inner s) (λ o s. Ok (expr k c o, s))) (chain_rule inner primary_rule)
-    (λ c. mapped (expr k c) (perhaps_deeper (Good late) late (is classes.Question) (a_chain.grabs c) (word_of classes.Question) a_choice spec.choice_by (choice_open late) (chain_question c) d inner h))))
+    (λ c. mapped (expr k c) (perhaps_deeper Good (is classes.Question) (a_chain.grabs c) (word_of classes.Question) a_choice spec.choice_by choice_open (chain_question c) d inner h))))

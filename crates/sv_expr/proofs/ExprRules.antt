@@ -17,40 +17,40 @@ use Rattle.sv_expr.proofs.PlaceRules.{a_flat_call, lvalue_by_rule, flat_call_by_
 use Rattle.sv_expr.proofs.ChainRules.{expr_in_rule}
 use Rattle.sv_expr.proofs.PrimaryRules.{primary_rule}
 
-level_rule : {late : Word → Bool} (d : ℕ) (inner : spec.Inner) → Inside (Good late) d inner → Good late (Unit {0}) d (spec.expr_in inner)
+level_rule : (d : ℕ) (inner : spec.Inner) → Inside Good d inner → Good (Unit {0}) d (spec.expr_in inner)
 level_rule d inner h = expr_in_rule d inner h (primary_rule d inner h)
 
 -- what reads an expression inside is exact
-pub inside_good : (late : Word → Bool) (d : ℕ) → Inside (Good late) d (spec.inside d)
-inside_good late zero = refl
-inside_good late (suc d) = (d, omega arith, level_rule d (spec.inside d) (inside_good late d))
+pub inside_good : (d : ℕ) → Inside Good d (spec.inside d)
+inside_good zero = refl
+inside_good (suc d) = (d, omega arith, level_rule d (spec.inside d) (inside_good d))
 
 -- an expression at this number of levels
-pub good_expr : {live : Type 0} {late : Word → Bool} (d : ℕ) → Good late live d (spec.expr d)
-good_expr {late = late} d = lively (level_rule d (spec.inside d) (inside_good late d))
+pub good_expr : {live : Type 0} (d : ℕ) → Good live d (spec.expr d)
+good_expr d = lively (level_rule d (spec.inside d) (inside_good d))
 
-pub expr_rule : {live : Type 0} {late : Word → Bool} {before : Option Word → Bool} (d : ℕ) → Apart begins_expr before → Rule live late before an_expr (λ x. x) d (spec.expr d)
+pub expr_rule : {live : Type 0} {before : Option Word → Bool} (d : ℕ) → Apart begins_expr before → Rule live before an_expr (λ x. x) d (spec.expr d)
 expr_rule {before = before} d apart = put_expr (good_expr d) before apart
 
-pub exprs_rule : {live : Type 0} {late : Word → Bool} {before : Option Word → Bool} (d : ℕ) → Apart begins_expr before → Rule live late before some_exprs (λ xs. xs) d (spec.exprs d)
+pub exprs_rule : {live : Type 0} {before : Option Word → Bool} (d : ℕ) → Apart begins_expr before → Rule live before some_exprs (λ xs. xs) d (spec.exprs d)
 exprs_rule {before = before} d apart = exprs_by_rule (good_expr d) before apart
 
-pub more_exprs_rule : {live : Type 0} {late : Word → Bool} (prior : Option Word → Bool) (d : ℕ) (found : List Expr) → Apart (is classes.Comma) prior
-    → Rule live late prior (more_exprs prior) (λ xs. found ++ xs) d (spec.more_exprs d found)
+pub more_exprs_rule : {live : Type 0} (prior : Option Word → Bool) (d : ℕ) (found : List Expr) → Apart (is classes.Comma) prior
+    → Rule live prior (more_exprs prior) (λ xs. found ++ xs) d (spec.more_exprs d found)
 more_exprs_rule prior d found apart = more_exprs_by_rule (good_expr d) prior apart found
 
-pub listed_rule : {live : Type 0} {late : Word → Bool} (prior : Option Word → Bool) (d : ℕ) → Apart begins_expr prior → Rule live late prior (exprs_or_none prior) (λ xs. xs) d (spec.listed_by (spec.expr d))
+pub listed_rule : {live : Type 0} (prior : Option Word → Bool) (d : ℕ) → Apart begins_expr prior → Rule live prior (exprs_or_none prior) (λ xs. xs) d (spec.listed_by (spec.expr d))
 listed_rule prior d apart = listed_by_rule (good_expr d) prior apart
 
-pub selects_rule : {live : Type 0} {late : Word → Bool} (prior : Option Word → Bool) (d : ℕ) → Apart (is classes.OpenBracket) prior → Rule live late prior (some_selects prior) (λ ss. ss) d (spec.selects d)
-selects_rule {late = late} prior d apart = selects_in_rule prior (apart _ (knows classes.OpenBracket refl).yes) d (spec.inside d) (inside_good late d)
+pub selects_rule : {live : Type 0} (prior : Option Word → Bool) (d : ℕ) → Apart (is classes.OpenBracket) prior → Rule live prior (some_selects prior) (λ ss. ss) d (spec.selects d)
+selects_rule prior d apart = selects_in_rule prior (apart _ (knows classes.OpenBracket refl).yes) d (spec.inside d) (inside_good d)
 
-pub lvalue_rule : {live : Type 0} {late : Word → Bool} {before : Option Word → Bool} (d : ℕ) → Apart (is classes.Name) before → Rule live late before an_lvalue (λ x. x) d (spec.lvalue d)
-lvalue_rule {late = late} d apart = lvalue_by_rule d (inside_good late d) apart
+pub lvalue_rule : {live : Type 0} {before : Option Word → Bool} (d : ℕ) → Apart (is classes.Name) before → Rule live before an_lvalue (λ x. x) d (spec.lvalue d)
+lvalue_rule d apart = lvalue_by_rule d (inside_good d) apart
 
 -- "(" (expr,+)? ")", where its level was opened before
-pub actuals_rule : {live : Type 0} {late : Word → Bool} (d : ℕ) → Rule live late never some_actuals (λ p. p) d (spec.actuals_by (spec.expr d))
+pub actuals_rule : {live : Type 0} (d : ℕ) → Rule live never some_actuals (λ p. p) d (spec.actuals_by (spec.expr d))
 actuals_rule d = actuals_by_rule (good_expr d)
 
-pub flat_call_rule : {live : Type 0} {late : Word → Bool} {before : Option Word → Bool} (d : ℕ) → Apart (is classes.Name) before → Rule live late before a_flat_call (λ x. x) d (spec.flat_call d)
+pub flat_call_rule : {live : Type 0} {before : Option Word → Bool} (d : ℕ) → Apart (is classes.Name) before → Rule live before a_flat_call (λ x. x) d (spec.flat_call d)
 flat_call_rule d apart = flat_call_by_rule d (good_expr d) apart

@@ -35,7 +35,7 @@ use Rattle.sv_expr.proofs.Frees.{stops, expr_stops, ends_of}
 abbrev make_prefix : ℕ → UnaryOperator → Prefix
 make_prefix k o = record { token = k; operator = o }
 
-prefix_rule : {live : Type 0} {late : Word → Bool} {d : ℕ} → Rule live late never a_prefix (λ x. x) d spec.prefix
+prefix_rule : {live : Type 0} {d : ℕ} → Rule live never a_prefix (λ x. x) d spec.prefix
 unfolding spec.prefix
 prefix_rule = told_as a_prefix (λ (p : ℕ × UnaryOperator). make_prefix p.0 p.1) (λ x. x) (λ p. refl) (λ p t. refl) (λ u. ((u.token, u.operator), refl))
     (numbered make_prefix (λ k s. and_then (token (λ t. unary_of (class_at t)) s) (λ o s. Ok (make_prefix k o, s)))
@@ -47,7 +47,7 @@ prefixes_repeat = record { starts = prefix_starts; next = λ x t e. refl; at_end
 abbrev pub some_prefixes : Kind Word (List Prefix)
 some_prefixes = list begins_prefix a_prefix never
 
-pub prefixes_rule : {live : Type 0} {late : Word → Bool} {d : ℕ} → Rule live late never some_prefixes (λ us. us) d spec.prefixes
+pub prefixes_rule : {live : Type 0} {d : ℕ} → Rule live never some_prefixes (λ us. us) d spec.prefixes
 prefixes_rule = many begins_prefix never prefixes_repeat (λ t e. refl) [] prefix_rule
 
 -- ---- lists
@@ -94,11 +94,11 @@ listed_stop prior c fixed none stop other free (x ∷ xs) = exprs_stop c fixed s
 -- ---- what reads an expression
 
 -- it is exact, where this many levels are left
-abbrev pub Good : (Word → Bool) → Type 0 → ℕ → Parses Expr → Type 0
-Good late live d e = Rule live late never an_expr (λ x. x) d e
+abbrev pub Good : Type 0 → ℕ → Parses Expr → Type 0
+Good live d e = Rule live never an_expr (λ x. x) d e
 
-pub no_expr : (late : Word → Bool) (d : ℕ) → Good late ⊥ d refuse
-no_expr late d = dead (expr_viable d)
+pub no_expr : (d : ℕ) → Good ⊥ d refuse
+no_expr d = dead (expr_viable d)
 
 -- ---- "(" (expr,+)? ")"
 
@@ -120,7 +120,7 @@ opening_free wraps.Group u t e = refl
 opening_free wraps.Signed u t e = refl
 opening_free wraps.Unsigned u t e = refl
 
-opening_rule : {live : Type 0} {late : Word → Bool} {d : ℕ} (w : Wrap) → Rule live late never (an_opening w) (λ u. u) d (spec.opening w)
+opening_rule : {live : Type 0} {d : ℕ} (w : Wrap) → Rule live never (an_opening w) (λ u. u) d (spec.opening w)
 opening_rule wraps.Group = expected (is classes.OpenParen) a_paren (knows classes.OpenParen refl) refl
 opening_rule wraps.Signed = token_then (is classes.ToSigned) (word_of classes.ToSigned) (knows classes.ToSigned refl) refl (expected (is classes.OpenParen) a_paren (knows classes.OpenParen refl) refl)
 opening_rule wraps.Unsigned = token_then (is classes.ToUnsigned) (word_of classes.ToUnsigned) (knows classes.ToUnsigned refl) refl (expected (is classes.OpenParen) a_paren (knows classes.OpenParen refl) refl)
@@ -131,23 +131,23 @@ a_wrap w = pair (place never) (λ _. pair (an_opening w) (λ _. pair an_expr (λ
 
 -- ---- the parts of one level
 
-module _ {live : Type 0} {late : Word → Bool} {d : ℕ} {e : Parses Expr} (good : Good late live d e) where
-  pub put_expr : (before : Option Word → Bool) → Apart begins_expr before → Rule live late before an_expr (λ x. x) d e
+module _ {live : Type 0} {d : ℕ} {e : Parses Expr} (good : Good live d e) where
+  pub put_expr : (before : Option Word → Bool) → Apart begins_expr before → Rule live before an_expr (λ x. x) d e
   put_expr before apart = put_apart begins_expr before expr_starts apart good
 
-  pub exprs_by_rule : (before : Option Word → Bool) → Apart begins_expr before → Rule live late before some_exprs (λ xs. xs) d (spec.exprs_by e)
+  pub exprs_by_rule : (before : Option Word → Bool) → Apart begins_expr before → Rule live before some_exprs (λ xs. xs) d (spec.exprs_by e)
   exprs_by_rule before apart = separate (is classes.Comma) a_comma (knows classes.Comma refl) no_comma_at_end comma_free good (put_expr before apart)
 
-  next_rule : Rule live late never (behind a_comma an_expr) (λ x. x) d (spec.next_expr e)
+  next_rule : Rule live never (behind a_comma an_expr) (λ x. x) d (spec.next_expr e)
   next_rule = token_then (is classes.Comma) a_comma (knows classes.Comma refl) refl good
 
-  pub more_exprs_by_rule : (prior : Option Word → Bool) → Apart (is classes.Comma) prior → (found : List Expr) → Rule live late prior (more_exprs prior) (λ xs. found ++ xs) d (spec.more_exprs_by e found)
+  pub more_exprs_by_rule : (prior : Option Word → Bool) → Apart (is classes.Comma) prior → (found : List Expr) → Rule live prior (more_exprs prior) (λ xs. found ++ xs) d (spec.more_exprs_by e found)
   more_exprs_by_rule prior apart found = many (is classes.Comma) prior (commas_repeat (is classes.Comma) a_comma an_expr (knows classes.Comma refl) no_comma_at_end comma_free) apart found next_rule
 
-  pub listed_by_rule : (prior : Option Word → Bool) → Apart begins_expr prior → Rule live late prior (exprs_or_none prior) (λ xs. xs) d (spec.listed_by e)
+  pub listed_by_rule : (prior : Option Word → Bool) → Apart begins_expr prior → Rule live prior (exprs_or_none prior) (λ xs. xs) d (spec.listed_by e)
   listed_by_rule prior apart = lists begins_expr (is classes.Comma) prior a_comma (knows classes.Comma refl) no_comma_at_end comma_free expr_starts apart good
 
-  pub actuals_by_rule : Rule live late never some_actuals (λ p. p) d (spec.actuals_by e)
+  pub actuals_by_rule : Rule live never some_actuals (λ p. p) d (spec.actuals_by e)
   unfolding spec.actuals_by
   actuals_by_rule =
       told_as some_actuals (λ (p : ℕ × (List Expr × Unit {0})). (p.0, p.1.0)) (λ p. p) (λ p. refl) (λ p t. refl) (λ p. ((p.0, (p.1, tt)), refl))
@@ -156,7 +156,7 @@ module _ {live : Type 0} {late : Word → Bool} {d : ℕ} {e : Parses Expr} (goo
       (seq (λ xs. xs) (λ xs _. (k, xs)) (λ xs s. and_then (expect (is classes.CloseParen) s) (λ _ s. Ok ((k, xs), s))) (listed_by_rule never (λ t e. refl))
       (λ xs. last (is classes.CloseParen) (word_of classes.CloseParen) (k, xs) (knows classes.CloseParen refl) (listed_stop never classes.CloseParen refl refl refl refl refl xs)))))
 
-  pub wrap_by_rule : (w : Wrap) → Rule live late never (a_wrap w) (λ p. spec.wrapped w p.0 p.1.1.0) d (spec.wrap_by e w)
+  pub wrap_by_rule : (w : Wrap) → Rule live never (a_wrap w) (λ p. spec.wrapped w p.0 p.1.1.0) d (spec.wrap_by e w)
   unfolding spec.wrap_by spec.closing
   wrap_by_rule w =
       numbered (λ k p. spec.wrapped w k p.1.0) (λ k s. and_then (spec.opening w s) (λ _ s. and_then (e s) (λ x. spec.closing w k x)))
@@ -165,11 +165,11 @@ module _ {live : Type 0} {late : Word → Bool} {d : ℕ} {e : Parses Expr} (goo
       (λ x. last (is classes.CloseParen) (word_of classes.CloseParen) (spec.wrapped w k x) (knows classes.CloseParen refl) (expr_stops classes.CloseParen refl refl x))))
 
 -- the actuals of a call begin with their "("
-pub actuals_enter : {Z : Type 0} (late : Word → Bool) (f : ℕ × List Expr → Z) → Enters (Good late) late (is classes.OpenParen) a_paren some_actuals f (λ e s. and_then (spec.actuals_by e s) (λ p s. Ok (f p, s)))
-actuals_enter late f = record {
+pub actuals_enter : {Z : Type 0} (f : ℕ × List Expr → Z) → Enters Good (is classes.OpenParen) a_paren some_actuals f (λ e s. and_then (spec.actuals_by e s) (λ p s. Ok (f p, s)))
+actuals_enter f = record {
   rule = λ live m e good. mapped f (actuals_by_rule good);
   some = refuse;
-  dead = no_expr late;
+  dead = no_expr;
   knows = knows classes.OpenParen refl;
   starts = λ n p r h. refl;
 }

@@ -65,16 +65,16 @@ written_so inner n s false = refl
 bracket_free : a_call_next (Some (word_of classes.OpenBracket)) ≡ false
 bracket_free = ap (λ b. b || false) (word_is_not classes.OpenParen classes.OpenBracket refl refl)
 
-behind_rule : {late : Word → Bool} (d : ℕ) (inner : spec.Inner) → Inside (Good late) d inner → (n : Name) → Rule (Unit {0}) late never behind_name (either (called n) (placed n)) d (spec.behind_name inner n)
+behind_rule : (d : ℕ) (inner : spec.Inner) → Inside Good d inner → (n : Name) → Rule (Unit {0}) never behind_name (either (called n) (placed n)) d (spec.behind_name inner n)
 unfolding spec.behind_name
-behind_rule {late = late} d inner h n =
+behind_rule d inner h n =
     same_rule _ (λ s. written_so inner n s (is classes.OpenParen (first s.rest)))
-    (past_deeper (Good late) late (is classes.OpenParen) never a_paren some_actuals (called n) (λ e s. and_then (spec.actuals_by e s) (λ p s. Ok (called n p, s))) (actuals_enter late (called n))
+    (past_deeper Good (is classes.OpenParen) never a_paren some_actuals (called n) (λ e s. and_then (spec.actuals_by e s) (λ p s. Ok (called n p, s))) (actuals_enter (called n))
     (some_selects a_call_next) (placed n) refl inner h
-    (λ m. let k : Rule (Unit {0}) late a_call_next (some_selects a_call_next) (λ ss. ss) 0 (spec.selects_in None) = selects_in_rule a_call_next bracket_free 0 None refl in k.closes m)
+    (λ m. let k : Rule (Unit {0}) a_call_next (some_selects a_call_next) (λ ss. ss) 0 (spec.selects_in None) = selects_in_rule a_call_next bracket_free 0 None refl in k.closes m)
     (mapped (placed n) (selects_in_rule a_call_next bracket_free d inner h)))
 
-pub named_rule : {late : Word → Bool} (d : ℕ) (inner : spec.Inner) → Inside (Good late) d inner → Rule (Unit {0}) late never named name_made d (spec.named inner)
+pub named_rule : (d : ℕ) (inner : spec.Inner) → Inside Good d inner → Rule (Unit {0}) never named name_made d (spec.named inner)
 unfolding spec.named
 named_rule d inner h = seq (λ n. n) (λ n p. either (called n) (placed n) p) (spec.behind_name inner) (name_rule (λ t e. refl)) (behind_rule d inner h)
 
@@ -113,7 +113,7 @@ lvalue_grabs ss t = sym (or_none (is classes.OpenBracket t)) ∙ ap (λ b. is cl
 abbrev lvalue_parts : Kind Word (Name × List Select)
 lvalue_parts = pair a_name (λ _. some_selects never)
 
-pub lvalue_by_rule : {live : Type 0} {late : Word → Bool} {before : Option Word → Bool} (d : ℕ) → Inside (Good late) d (spec.inside d) → Apart (is classes.Name) before → Rule live late before an_lvalue (λ x. x) d (spec.lvalue d)
+pub lvalue_by_rule : {live : Type 0} {before : Option Word → Bool} (d : ℕ) → Inside Good d (spec.inside d) → Apart (is classes.Name) before → Rule live before an_lvalue (λ x. x) d (spec.lvalue d)
 unfolding spec.lvalue
 lvalue_by_rule d h apart =
     told_as an_lvalue (λ (p : Name × List Select). lvalue p.0 p.1) (λ x. x) (λ p. lvalue_tells p.0 p.1) (λ p t. lvalue_grabs p.1 t) (λ l. (((out-Lvalue l).name, (out-Lvalue l).selects), roll-out-Lvalue l))
@@ -135,7 +135,7 @@ flat_parts = pair a_name (λ _. some_actuals)
 flat_tells : (p : Name × (ℕ × List Expr)) → flat_call_told (call p.0 p.1.0 p.1.1) ≡ flat_parts.told p
 flat_tells p = ap flat_told (out-roll-Call (record { name = p.0; token = p.1.0; actuals = p.1.1 }))
 
-pub flat_call_by_rule : {live : Type 0} {late : Word → Bool} {before : Option Word → Bool} (d : ℕ) → Good late live d (spec.expr d) → Apart (is classes.Name) before → Rule live late before a_flat_call (λ x. x) d (spec.flat_call d)
+pub flat_call_by_rule : {live : Type 0} {before : Option Word → Bool} (d : ℕ) → Good live d (spec.expr d) → Apart (is classes.Name) before → Rule live before a_flat_call (λ x. x) d (spec.flat_call d)
 unfolding spec.flat_call
 flat_call_by_rule d good apart =
     told_as a_flat_call (λ (p : Name × (ℕ × List Expr)). call p.0 p.1.0 p.1.1) (λ x. x) flat_tells (λ p t. refl) (λ c. (((out-Call c).name, ((out-Call c).token, (out-Call c).actuals)), roll-out-Call c))

@@ -83,7 +83,7 @@ null_layer : Layered fronts.Null null_made
 null_layer (Primary-F.Null k) z f e = ((k, tt), sym (forms.rolls-Null k) ∙ e)
 null_layer _ z f e = absurd (cc)
 
-null_rule : {live : Type 0} {late : Word → Bool} {d : ℕ} → Rule live late never a_null null_made d spec.null
+null_rule : {live : Type 0} {d : ℕ} → Rule live never a_null null_made d spec.null
 unfolding spec.null
 null_rule = numbered (λ k _. forms.Null k) _ (λ k. last (is classes.Null) (word_of classes.Null) (forms.Null k) (knows classes.Null refl) refl)
 
@@ -145,33 +145,33 @@ token_is t f e some fixed = (knows (front_class f) fixed).says t (when_class (fr
 none_there : (s : State Word) → front_of (class_at (first s.rest)) ≡ fronts.Other → (n : ℕ) (z : Primary) (r : List Word) → Is a_primary n z → first (words a_primary z ++ r) ≡ first s.rest → ⊥
 none_there s e n z r is_it same = true_not_false (is_some_front fronts.Other) (ap is_some_front (sym e) ∙ ap (λ t. is_some_front (front_of (class_at t))) (sym same) ∙ primary_fronts n z r is_it) refl
 
-module _ {late : Word → Bool} (d : ℕ) (inner : spec.Inner) (h : Inside (Good late) d inner) where
-  primary_by : (s : State Word) (f : Front) → front_of (class_at (first s.rest)) ≡ f → Exact late a_primary (λ x. x) d s (spec.primary_by inner f s)
+module _ (d : ℕ) (inner : spec.Inner) (h : Inside Good d inner) where
+  primary_by : (s : State Word) (f : Front) → front_of (class_at (first s.rest)) ≡ f → Exact a_primary (λ x. x) d s (spec.primary_by inner f s)
   primary_by s fronts.Number e =
-      let k : Rule (Unit {0}) late never a_number (λ m. forms.Number m) d (λ s. and_then (number s) (λ m s. Ok (forms.Number m, s))) = mapped forms.Number (number_rule (λ t e. refl)) in
-      formed a_number a_primary forms.Number (told_form a_number a_primary forms.Number number_tells (λ m t. primary_grabs_are (forms.Number m) _ (forms.outs-Number m) t)) late (λ x. x) d s _
+      let k : Rule (Unit {0}) never a_number (λ m. forms.Number m) d (λ s. and_then (number s) (λ m s. Ok (forms.Number m, s))) = mapped forms.Number (number_rule (λ t e. refl)) in
+      formed a_number a_primary forms.Number (told_form a_number a_primary forms.Number number_tells (λ m t. primary_grabs_are (forms.Number m) _ (forms.outs-Number m) t)) (λ x. x) d s _
       (by_layer a_number forms.Number number_tells fronts.Number number_layer (first s.rest) e) (k.exact tt s refl)
   primary_by s fronts.Text e =
-      let k : Rule (Unit {0}) late never a_text (λ m. forms.Text m) d (λ s. and_then (text s) (λ m s. Ok (forms.Text m, s))) = mapped forms.Text (text_rule (λ t e. refl)) in
-      formed a_text a_primary forms.Text (told_form a_text a_primary forms.Text text_tells (λ m t. primary_grabs_are (forms.Text m) _ (forms.outs-Text m) t)) late (λ x. x) d s _
+      let k : Rule (Unit {0}) never a_text (λ m. forms.Text m) d (λ s. and_then (text s) (λ m s. Ok (forms.Text m, s))) = mapped forms.Text (text_rule (λ t e. refl)) in
+      formed a_text a_primary forms.Text (told_form a_text a_primary forms.Text text_tells (λ m t. primary_grabs_are (forms.Text m) _ (forms.outs-Text m) t)) (λ x. x) d s _
       (by_layer a_text forms.Text text_tells fronts.Text text_layer (first s.rest) e) (k.exact tt s refl)
   primary_by s fronts.Null e =
-      let k : Rule (Unit {0}) late never a_null null_made d spec.null = null_rule in
-      formed a_null a_primary null_made (told_form a_null a_primary null_made null_tells (λ p t. primary_grabs_are (forms.Null p.0) _ (forms.outs-Null p.0) t)) late (λ x. x) d s _
+      let k : Rule (Unit {0}) never a_null null_made d spec.null = null_rule in
+      formed a_null a_primary null_made (told_form a_null a_primary null_made null_tells (λ p t. primary_grabs_are (forms.Null p.0) _ (forms.outs-Null p.0) t)) (λ x. x) d s _
       (by_layer a_null null_made null_tells fronts.Null null_layer (first s.rest) e) (k.exact tt s refl)
   primary_by s fronts.Name e =
-      formed named a_primary name_made named_form late (λ x. x) d s _
+      formed named a_primary name_made named_form (λ x. x) d s _
       (by_layer named name_made named_tells fronts.Name name_layer (first s.rest) e) ((named_rule d inner h).exact tt s refl)
   primary_by s (fronts.Wrapped w) e =
-      one_deeper (Good late) late (a_wrap w) a_primary (wrap_made w) (told_form (within (a_wrap w)) a_primary (wrap_made w) (wrap_tells w) (wrap_grabs w)) (λ x. x) (λ e. spec.wrap_by e w) (λ live m e good. wrap_by_rule good w)
-      refuse (no_expr late) (number_viable 0) d inner h s (λ n p r i. wrap_starts w n p r ∙ sym (token_is (first s.rest) (fronts.Wrapped w) e refl (wrap_fixed w)))
+      one_deeper Good (a_wrap w) a_primary (wrap_made w) (told_form (within (a_wrap w)) a_primary (wrap_made w) (wrap_tells w) (wrap_grabs w)) (λ x. x) (λ e. spec.wrap_by e w) (λ live m e good. wrap_by_rule good w)
+      refuse no_expr (number_viable 0) d inner h s (λ n p r i. wrap_starts w n p r ∙ sym (token_is (first s.rest) (fronts.Wrapped w) e refl (wrap_fixed w)))
       (by_layer (within (a_wrap w)) (wrap_made w) (wrap_tells w) (fronts.Wrapped w) (wrap_layer w) (first s.rest) e)
   primary_by s fronts.Braces e =
-      one_deeper (Good late) late braces a_primary braces_made braces_form (λ x. x) spec.braces_by (λ live m e good. braces_by_rule good)
-      refuse (no_expr late) (number_viable 0) d inner h s (λ n p r i. sym (token_is (first s.rest) fronts.Braces e refl refl))
+      one_deeper Good braces a_primary braces_made braces_form (λ x. x) spec.braces_by (λ live m e good. braces_by_rule good)
+      refuse no_expr (number_viable 0) d inner h s (λ n p r i. sym (token_is (first s.rest) fronts.Braces e refl refl))
       (λ n z r i g same. came_from n (out-Primary z) z (front_is (first s.rest) n z r i same ∙ e) (roll-out-Primary z) (subst (λ (t : Tells). IsRight n t.atoms) (primary_tells z (out-Primary z) refl) i))
-  primary_by s fronts.Other e = none_begins late a_primary (λ x. x) d s (number_viable d s.place) (λ n z r i g same. none_there s e n z r i same)
+  primary_by s fronts.Other e = none_begins a_primary (λ x. x) d s (number_viable d s.place) (λ n z r i g same. none_there s e n z r i same)
 
-  pub primary_rule : Rule (Unit {0}) late never a_primary (λ x. x) d (spec.primary inner)
+  pub primary_rule : Rule (Unit {0}) never a_primary (λ x. x) d (spec.primary inner)
   unfolding spec.primary
   primary_rule = record { exact = λ l s b. primary_by s (front_of (class_at (first s.rest))) refl; closes = number_viable d; keeps = λ n z r i g. refl }

@@ -107,18 +107,18 @@ no_range n p h = let bad : false ≡ true = h.0 in absurd (cc)
 right_form : Form to_right (right_if true) (λ p. p)
 right_form = record { tells = λ n p h. refl; levels_are = λ n p h. omega arith; is = λ n p h. (refl, h); grabs = λ n p t h. refl }
 
-module _ {live : Type 0} {late : Word → Bool} {d : ℕ} (before : Option Word → Bool) (free : (c : Class) → is_fixed c ≡ true → stops c ≡ false → before (Some (word_of c)) ≡ false) where
+module _ {live : Type 0} {d : ℕ} (before : Option Word → Bool) (free : (c : Class) → is_fixed c ≡ true → stops c ≡ false → before (Some (word_of c)) ≡ false) where
   width_rule : {Z : Type 0} (c : Class) (fixed : is_fixed c ≡ true) → stops c ≡ false → (make : Number → Z)
-      → Rule live late before (with_width c) (λ p. make p.0) d (λ s. and_then (expect (is c) s) (λ _ s. and_then (number s) (λ n s. and_then (expect (is classes.CloseBracket) s) (λ _ s. Ok (make n, s)))))
+      → Rule live before (with_width c) (λ p. make p.0) d (λ s. and_then (expect (is c) s) (λ _ s. and_then (number s) (λ n s. and_then (expect (is classes.CloseBracket) s) (λ _ s. Ok (make n, s)))))
   width_rule c fixed stop make = token_then (is c) (word_of c) (knows c fixed) (free c fixed stop)
       (seq (λ n. n) (λ n _. make n) _ (number_rule (λ t e. refl)) (λ n. last (is classes.CloseBracket) (word_of classes.CloseBracket) (make n) (knows classes.CloseBracket refl) refl))
 
-  range_rule : (k : ℕ) (a : Bound) → Rule live late before (right_if true) (λ p. select_forms.Range k a p.0) d (spec.range_behind k (Some a))
+  range_rule : (k : ℕ) (a : Bound) → Rule live before (right_if true) (λ p. select_forms.Range k a p.0) d (spec.range_behind k (Some a))
   range_rule k a = shaped (right_if true) (λ p. p) (λ p. select_forms.Range k a p.0) right_form (λ n p h. (p, h.1, refl))
       (token_then (is classes.Colon) (word_of classes.Colon) (knows classes.Colon refl) (free classes.Colon refl refl)
       (seq (λ b. b) (λ b _. select_forms.Range k a b) _ (bound_rule (λ t e. refl)) (λ b. last (is classes.CloseBracket) (word_of classes.CloseBracket) (select_forms.Range k a b) (knows classes.CloseBracket refl) refl)))
 
-  down_rule : (k : ℕ) (x : Expr) (o : Option Bound) → Rule live late before (down_or_range (is_there o)) (either (λ p. select_forms.Down k x p.0) (λ p. ranged k o p.0)) d
+  down_rule : (k : ℕ) (x : Expr) (o : Option Bound) → Rule live before (down_or_range (is_there o)) (either (λ p. select_forms.Down k x p.0) (λ p. ranged k o p.0)) d
       (λ s. if is classes.MinusColon (first s.rest) then spec.down_tail k x s else spec.range_behind k o s)
   unfolding spec.down_tail
   down_rule k x None = or_refuse (is classes.MinusColon) before (with_width classes.MinusColon) (right_if false) (fixed_starts classes.MinusColon refl (pair a_number (λ _. a_close))) no_range
@@ -127,7 +127,7 @@ module _ {live : Type 0} {late : Word → Bool} {d : ℕ} (before : Option Word 
       (starts_off (is classes.Colon) (is classes.MinusColon) (right_if true) (right_if_starts true) (apart_of classes.Colon classes.MinusColon refl))
       (width_rule classes.MinusColon refl refl (λ n. select_forms.Down k x n)) (range_rule k a)
 
-  tail_rule : (k : ℕ) (x : Expr) → Rule live late before (a_tail (is_there (bound_of x))) (tailed k x (bound_of x)) d (spec.select_tail k x)
+  tail_rule : (k : ℕ) (x : Expr) → Rule live before (a_tail (is_there (bound_of x))) (tailed k x (bound_of x)) d (spec.select_tail k x)
   unfolding spec.select_tail spec.index_tail spec.up_tail spec.range_tail
   tail_rule k x =
       let b = is_there (bound_of x) in
@@ -138,7 +138,7 @@ module _ {live : Type 0} {late : Word → Bool} {d : ℕ} (before : Option Word 
       (down_off classes.PlusColon (apart_of classes.MinusColon classes.PlusColon refl) (apart_of classes.Colon classes.PlusColon refl) b)
       (width_rule classes.PlusColon refl refl (λ n. select_forms.Up k x n)) (down_rule k x (bound_of x)))
 
-flat_rule : {live : Type 0} {late : Word → Bool} {d : ℕ} {e : Parses Expr} → Good late live d e → Rule live late never flat_select made d (spec.select_by e)
+flat_rule : {live : Type 0} {d : ℕ} {e : Parses Expr} → Good live d e → Rule live never flat_select made d (spec.select_by e)
 unfolding spec.select_by
 flat_rule {e = e} good = numbered (λ k p. tailed k p.0 (bound_of p.0) p.1) (λ k s. and_then (expect (is classes.OpenBracket) s) (λ _ s. and_then (e s) (λ x. spec.select_tail k x)))
     (λ k. token_then (is classes.OpenBracket) a_bracket (knows classes.OpenBracket refl) refl
@@ -244,11 +244,11 @@ unfolding is_class
 no_bracket_at_end = refl
 
 -- a select opens a level with its "["
-selects_open : (late : Word → Bool) → Opens (Good late) late (is classes.OpenBracket) a_bracket a_select spec.select_by
-selects_open late = record {
+selects_open : Opens Good (is classes.OpenBracket) a_bracket a_select spec.select_by
+selects_open = record {
   rule = λ live m e good. shaped a_select made (λ x. x) select_form select_all (deeper_rule (flat_rule good));
   some = refuse;
-  dead = λ m. no_expr late m;
+  dead = λ m. no_expr m;
   knows = knows classes.OpenBracket refl;
   stop = no_bracket_at_end;
   starts = select_starts;
@@ -258,6 +258,6 @@ selects_open late = record {
 abbrev pub some_selects : (Option Word → Bool) → Kind Word (List Select)
 some_selects prior = list (is classes.OpenBracket) a_select prior
 
-pub selects_in_rule : {live : Type 0} {late : Word → Bool} (prior : Option Word → Bool) → prior (Some (word_of classes.OpenBracket)) ≡ false → (d : ℕ) (inner : spec.Inner) → Inside (Good late) d inner
-    → Rule live late prior (some_selects prior) (λ ss. ss) d (spec.selects_in inner)
-selects_in_rule {late = late} prior free d inner h = lively (many_deeper (Good late) late (is classes.OpenBracket) prior a_bracket a_select spec.select_by (selects_open late) free (λ x. refl) [] d inner h)
+pub selects_in_rule : {live : Type 0} (prior : Option Word → Bool) → prior (Some (word_of classes.OpenBracket)) ≡ false → (d : ℕ) (inner : spec.Inner) → Inside Good d inner
+    → Rule live prior (some_selects prior) (λ ss. ss) d (spec.selects_in inner)
+selects_in_rule prior free d inner h = lively (many_deeper Good (is classes.OpenBracket) prior a_bracket a_select spec.select_by selects_open free (λ x. refl) [] d inner h)

@@ -66,7 +66,7 @@ body_stops c fixed no_statement no_type no_else no_colon b =
     statements_apart c no_statement no_else no_colon (declared_grabs b.variables) (declarations_apart (is c) never (class_apart c fixed begins_data_type no_type) (λ t e. refl) b.variables) b.statements
     (Some (word_of c)) (knows c fixed).yes
 
-body_rule : {live : Type 0} {late : Word → Bool} (d : ℕ) → Rule live late never a_body (λ x. x) d (spec.body d)
+body_rule : {live : Type 0} (d : ℕ) → Rule live never a_body (λ x. x) d (spec.body d)
 unfolding spec.body
 body_rule d = told_as a_body make_body (λ x. x) (λ p. refl) (λ p t. refl) (λ b. ((b.variables, b.statements), refl))
     (seq (λ vs. vs) (λ vs ss. make_body (vs, ss)) _ (declarations_rule never d (λ t e. refl))
@@ -94,7 +94,7 @@ function_ends : (b : Body) → a_body.grabs b (Some (word_of classes.EndFunction
 unfolding is_class
 function_ends b = body_stops classes.EndFunction refl refl refl refl refl b
 
-pub function_rule : {live : Type 0} {late : Word → Bool} (d : ℕ) → Rule live late never a_function (λ x. x) d (spec.function d)
+pub function_rule : {live : Type 0} (d : ℕ) → Rule live never a_function (λ x. x) d (spec.function d)
 unfolding spec.function
 function_rule d = told_as a_function (λ (p : ℕ × FunctionParts). make_function p.0 p.1) (λ x. x) (λ p. refl) (λ p t. refl)
     (λ f. ((f.token, (f.life, (f.outcome, (f.name, (f.formals, (f.body, f.end)))))), refl))
@@ -129,7 +129,7 @@ task_ends b = body_stops classes.EndTask refl refl refl refl refl b
 name_not_of_life : (l : Option Life) → Apart (is classes.Name) (life_grabs l)
 name_not_of_life l = option_apart (is classes.Name) begins_life never a_life name_not_life (λ t e. refl) (λ x t e. refl) l
 
-pub task_rule : {live : Type 0} {late : Word → Bool} (d : ℕ) → Rule live late never a_task (λ x. x) d (spec.task d)
+pub task_rule : {live : Type 0} (d : ℕ) → Rule live never a_task (λ x. x) d (spec.task d)
 unfolding spec.task
 task_rule d = told_as a_task (λ (p : ℕ × TaskParts). make_task p.0 p.1) (λ x. x) (λ p. refl) (λ p t. refl)
     (λ t. ((t.token, (t.life, (t.name, (t.formals, (t.body, t.end))))), refl))

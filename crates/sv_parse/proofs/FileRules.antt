@@ -51,7 +51,7 @@ all_parentheses false = (None, refl)
 both_start : Starts (is classes.OpenParen) both
 both_start n x r h = (knows classes.OpenParen refl).yes
 
-parentheses_rule : {live : Type 0} {late : Word → Bool} {d : ℕ} → Rule live late never some_parentheses (λ b. b) d spec.parentheses
+parentheses_rule : {live : Type 0} {d : ℕ} → Rule live never some_parentheses (λ b. b) d spec.parentheses
 unfolding spec.parentheses
 parentheses_rule = told_as some_parentheses is_there (λ b. b) parentheses_tell parentheses_go all_parentheses
     (mapped is_there (perhaps (is classes.OpenParen) never both_start (λ t e. refl)
@@ -107,7 +107,7 @@ last_at_end (m ∷ ms) prior e = last_at_end ms (a_module.grabs m) (colon_at_end
 file_at_end : (f : SvFile) → a_file.grabs f None ≡ false
 file_at_end f = or_both _ _ module_at_end (last_at_end f.modules never refl)
 
-module_rule : {live : Type 0} {late : Word → Bool} (d : ℕ) → Rule live late never a_module (λ x. x) d (spec.one_module d)
+module_rule : {live : Type 0} (d : ℕ) → Rule live never a_module (λ x. x) d (spec.one_module d)
 unfolding spec.one_module
 module_rule d = told_as a_module (λ (p : ℕ × ModuleParts). make_module p.0 p.1) (λ x. x) (λ p. refl) (λ p t. refl)
     (λ m. ((m.token, (m.name, (m.parentheses, (m.items, m.end)))), refl))
@@ -119,11 +119,11 @@ module_rule d = told_as a_module (λ (p : ℕ × ModuleParts). make_module p.0 p
     (λ xs. token_then (is classes.EndModule) (word_of classes.EndModule) (knows classes.EndModule refl) (end_not_of xs)
     (mapped (λ e. make_module k (n, (b, (xs, e)))) (optional_label_rule (λ t e. refl))))))))))
 
-file_rule : {live : Type 0} {late : Word → Bool} (d : ℕ) → Rule live late never a_file (λ x. x) d (spec.file d)
+file_rule : {live : Type 0} (d : ℕ) → Rule live never a_file (λ x. x) d (spec.file d)
 unfolding spec.file
 file_rule d = told_as a_file make_file (λ x. x) (λ ms. refl) (λ ms t. refl) (λ f. (f.modules, refl))
     (mapped make_file (many (is classes.Module) never modules_repeat (λ t e. refl) [] (module_rule d)))
 
 -- what reads a file up to its end is exact
-pub whole_rule : {live : Type 0} {late : Word → Bool} (d : ℕ) → Rule live late never (whole a_file) (λ x. x) d (spec.whole_file d)
+pub whole_rule : {live : Type 0} (d : ℕ) → Rule live never (whole a_file) (λ x. x) d (spec.whole_file d)
 whole_rule d = to_end a_file file_at_end (file_rule d)

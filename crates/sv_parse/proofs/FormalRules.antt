@@ -43,13 +43,13 @@ make_way k d = record { token = k; direction = d }
 way_starts : Starts begins_direction a_way
 way_starts n x r h = value_starts (λ t. direction_of (class_at t)) direction_word direction_reader x.direction
 
-direction_rule : {live : Type 0} {late : Word → Bool} {d : ℕ} → Rule live late never a_way (λ x. x) d spec.direction
+direction_rule : {live : Type 0} {d : ℕ} → Rule live never a_way (λ x. x) d spec.direction
 unfolding spec.direction
 direction_rule = told_as a_way (λ (p : ℕ × Direction). make_way p.0 p.1) (λ x. x) (λ p. refl) (λ p t. refl) (λ w. ((w.token, w.direction), refl))
     (numbered make_way _ (λ k. mapped (make_way k) (plainly (λ t. direction_of (class_at t)) direction_word direction_reader (λ d. refl) Input)))
 
-optional_direction_rule : {live : Type 0} {late : Word → Bool} {d : ℕ} (before : Option Word → Bool) → Apart begins_direction before
-    → Rule live late before (option begins_direction a_way before) (λ o. o) d spec.optional_direction
+optional_direction_rule : {live : Type 0} {d : ℕ} (before : Option Word → Bool) → Apart begins_direction before
+    → Rule live before (option begins_direction a_way before) (λ o. o) d spec.optional_direction
 optional_direction_rule before apart = perhaps begins_direction before way_starts apart direction_rule
 
 -- ---- what begins a formal
@@ -115,7 +115,7 @@ make_formal p = record { way = p.0; kind = p.1.0; name = p.1.1.0; dimensions = p
 abbrev pub a_formal : Kind Word Formal
 a_formal = record { told = formal_told; grabs = λ f. (list begins_dimension a_dimension never).grabs f.dimensions }
 
-pub formal_rule : {live : Type 0} {late : Word → Bool} {d : ℕ} (before : Option Word → Bool) → Apart begins_formal before → Rule live late before a_formal (λ x. x) d spec.formal
+pub formal_rule : {live : Type 0} {d : ℕ} (before : Option Word → Bool) → Apart begins_formal before → Rule live before a_formal (λ x. x) d spec.formal
 unfolding spec.formal
 formal_rule before apart =
     let outer = within_apart begins_direction begins_formal before direction_begins apart in
@@ -135,7 +135,7 @@ formal_free : (f : Formal) (t : Option Word) → begins_dimension t ≡ false �
 formal_free f t e = or_both _ _ e (none_goes_on f.dimensions t)
 
 formal_starts : Starts begins_formal a_formal
-formal_starts = starts_of begins_formal at_none (λ f. formal_free f None bracket_at_none) (formal_rule {live = Unit {0}} {late = λ _. false} {d = 0} (λ t. not (begins_formal t)) (but begins_formal))
+formal_starts = starts_of begins_formal at_none (λ f. formal_free f None bracket_at_none) (formal_rule {live = Unit {0}} {d = 0} (λ t. not (begins_formal t)) (but begins_formal))
 
 -- "(" (formal,+)? ")"
 abbrev pub some_formals : Kind Word (List Formal)
@@ -151,7 +151,7 @@ close_not_of : (fs : List Formal) → Apart close ((a_list begins_formal (is cla
 close_not_of fs = a_list_apart close begins_formal (is classes.Comma) never (word_of classes.Comma) a_formal close_not_formal (λ t e. refl) (apart_of classes.CloseParen classes.Comma refl)
     (λ f t e. formal_free f t (apart_of classes.CloseParen classes.OpenBracket refl t e)) fs
 
-formals_rule : {live : Type 0} {late : Word → Bool} {d : ℕ} → Rule live late never some_formals (λ x. x) d spec.formals
+formals_rule : {live : Type 0} {d : ℕ} → Rule live never some_formals (λ x. x) d spec.formals
 unfolding spec.formals
 formals_rule = told_as some_formals (λ (p : List Formal × Unit {0}). p.0) (λ x. x) (λ p. refl) (λ p t. refl) (λ fs. ((fs, tt), refl))
     (token_then (is classes.OpenParen) (word_of classes.OpenParen) (knows classes.OpenParen refl) refl
@@ -159,7 +159,7 @@ formals_rule = told_as some_formals (λ (p : List Formal × Unit {0}). p.0) (λ 
     (lists begins_formal (is classes.Comma) never (word_of classes.Comma) (knows classes.Comma refl) comma_at_none (λ f. formal_free f (Some (word_of classes.Comma)) comma_not_bracket) formal_starts (λ t e. refl) (formal_rule never (λ t e. refl)))
     (λ fs. last (is classes.CloseParen) (word_of classes.CloseParen) fs (knows classes.CloseParen refl) (close_not_of fs _ (knows classes.CloseParen refl).yes))))
 
-pub optional_formals_rule : {live : Type 0} {late : Word → Bool} {d : ℕ} → Rule live late never (option (is classes.OpenParen) some_formals never) (λ o. o) d spec.optional_formals
+pub optional_formals_rule : {live : Type 0} {d : ℕ} → Rule live never (option (is classes.OpenParen) some_formals never) (λ o. o) d spec.optional_formals
 optional_formals_rule = perhaps (is classes.OpenParen) never formals_start (λ t e. refl) formals_rule
 
 -- ---- formals of imports
@@ -171,7 +171,7 @@ make_import_formal p = record { way = p.0; kind = p.1.0; name = p.1.1.0; dimensi
 abbrev pub an_import_formal : Kind Word ImportFormal
 an_import_formal = record { told = import_formal_told; grabs = λ f. (list begins_dimension an_import_dimension never).grabs f.dimensions }
 
-pub import_formal_rule : {live : Type 0} {late : Word → Bool} {d : ℕ} (before : Option Word → Bool) → Apart begins_formal before → Rule live late before an_import_formal (λ x. x) d spec.import_formal
+pub import_formal_rule : {live : Type 0} {d : ℕ} (before : Option Word → Bool) → Apart begins_formal before → Rule live before an_import_formal (λ x. x) d spec.import_formal
 unfolding spec.import_formal
 import_formal_rule before apart =
     let outer = within_apart begins_direction begins_formal before direction_begins apart in
@@ -193,7 +193,7 @@ import_formal_free f t e = or_both _ _ e (none_goes_on f.dimensions t)
 
 import_formal_starts : Starts begins_formal an_import_formal
 import_formal_starts = starts_of begins_formal at_none (λ f. import_formal_free f None bracket_at_none)
-    (import_formal_rule {live = Unit {0}} {late = λ _. false} {d = 0} (λ t. not (begins_formal t)) (but begins_formal))
+    (import_formal_rule {live = Unit {0}} {d = 0} (λ t. not (begins_formal t)) (but begins_formal))
 
 -- "(" (import_formal,+)? ")"
 abbrev pub some_import_formals : Kind Word (List ImportFormal)
@@ -206,7 +206,7 @@ close_not_of_import : (fs : List ImportFormal) → Apart close ((a_list begins_f
 close_not_of_import fs = a_list_apart close begins_formal (is classes.Comma) never (word_of classes.Comma) an_import_formal close_not_formal (λ t e. refl) (apart_of classes.CloseParen classes.Comma refl)
     (λ f t e. import_formal_free f t (apart_of classes.CloseParen classes.OpenBracket refl t e)) fs
 
-import_formals_rule : {live : Type 0} {late : Word → Bool} {d : ℕ} → Rule live late never some_import_formals (λ x. x) d spec.import_formals
+import_formals_rule : {live : Type 0} {d : ℕ} → Rule live never some_import_formals (λ x. x) d spec.import_formals
 unfolding spec.import_formals
 import_formals_rule = told_as some_import_formals (λ (p : List ImportFormal × Unit {0}). p.0) (λ x. x) (λ p. refl) (λ p t. refl) (λ fs. ((fs, tt), refl))
     (token_then (is classes.OpenParen) (word_of classes.OpenParen) (knows classes.OpenParen refl) refl
@@ -215,5 +215,5 @@ import_formals_rule = told_as some_import_formals (λ (p : List ImportFormal × 
     (import_formal_rule never (λ t e. refl)))
     (λ fs. last (is classes.CloseParen) (word_of classes.CloseParen) fs (knows classes.CloseParen refl) (close_not_of_import fs _ (knows classes.CloseParen refl).yes))))
 
-pub optional_import_formals_rule : {live : Type 0} {late : Word → Bool} {d : ℕ} → Rule live late never (option (is classes.OpenParen) some_import_formals never) (λ o. o) d spec.optional_import_formals
+pub optional_import_formals_rule : {live : Type 0} {d : ℕ} → Rule live never (option (is classes.OpenParen) some_import_formals never) (λ o. o) d spec.optional_import_formals
 optional_import_formals_rule = perhaps (is classes.OpenParen) never import_formals_start (λ t e. refl) import_formals_rule

@@ -49,7 +49,7 @@ make_life k l = record { token = k; lifetime = l }
 life_starts : Starts begins_life a_life
 life_starts n x r h = value_starts (λ t. lifetime_of (class_at t)) lifetime_word lifetime_reader x.lifetime
 
-life_rule : {live : Type 0} {late : Word → Bool} {d : ℕ} → Rule live late never a_life (λ x. x) d spec.life
+life_rule : {live : Type 0} {d : ℕ} → Rule live never a_life (λ x. x) d spec.life
 unfolding spec.life
 life_rule = told_as a_life (λ (p : ℕ × Lifetime). make_life p.0 p.1) (λ x. x) (λ p. refl) (λ p t. refl) (λ l. ((l.token, l.lifetime), refl))
     (numbered make_life _ (λ k. mapped (make_life k) (plainly (λ t. lifetime_of (class_at t)) lifetime_word lifetime_reader (λ l. refl) Automatic)))
@@ -58,7 +58,7 @@ life_rule = told_as a_life (λ (p : ℕ × Lifetime). make_life p.0 p.1) (λ x. 
 abbrev pub life_grabs : Option Life → Option Word → Bool
 life_grabs = option_grabs begins_life a_life never
 
-pub optional_life_rule : {live : Type 0} {late : Word → Bool} {d : ℕ} → Rule live late never (option begins_life a_life never) (λ o. o) d spec.optional_life
+pub optional_life_rule : {live : Type 0} {d : ℕ} → Rule live never (option begins_life a_life never) (λ o. o) d spec.optional_life
 optional_life_rule = perhaps begins_life never life_starts (λ t e. refl) life_rule
 
 -- ---- what a function gives
@@ -100,7 +100,7 @@ type_not_void : Apart begins_data_type (is classes.Void)
 unfolding is_class
 type_not_void = apart_back (is classes.Void) begins_data_type (class_apart classes.Void refl begins_data_type refl)
 
-outcome_alone : {live : Type 0} {late : Word → Bool} {d : ℕ} → Rule live late never an_outcome (λ x. x) d spec.outcome
+outcome_alone : {live : Type 0} {d : ℕ} → Rule live never an_outcome (λ x. x) d spec.outcome
 unfolding spec.outcome spec.void
 outcome_alone = told_as an_outcome outcome_of (λ x. x) outcome_tells outcome_goes all_outcomes
     (remade outcome_of outcome_made
@@ -110,7 +110,7 @@ outcome_starts : Starts begins_outcome an_outcome
 outcome_starts n (outcomes.Data z) r h = in_right _ _ (type_starts n z r h)
 outcome_starts n (outcomes.Void k) r h = in_left _ _ (knows classes.Void refl).yes
 
-pub outcome_rule : {live : Type 0} {late : Word → Bool} {d : ℕ} (before : Option Word → Bool) → Apart begins_outcome before → Rule live late before an_outcome (λ x. x) d spec.outcome
+pub outcome_rule : {live : Type 0} {d : ℕ} (before : Option Word → Bool) → Apart begins_outcome before → Rule live before an_outcome (λ x. x) d spec.outcome
 outcome_rule before apart = put_apart begins_outcome before outcome_starts apart outcome_alone
 
 -- no outcome goes on with a name
@@ -139,7 +139,7 @@ make_trait k p = record { token = k; property = p }
 trait_starts : Starts begins_property a_trait
 trait_starts n x r h = value_starts (λ t. property_of (class_at t)) property_word property_reader x.property
 
-property_rule : {live : Type 0} {late : Word → Bool} {d : ℕ} → Rule live late never a_trait (λ x. x) d spec.property
+property_rule : {live : Type 0} {d : ℕ} → Rule live never a_trait (λ x. x) d spec.property
 unfolding spec.property
 property_rule = told_as a_trait (λ (p : ℕ × Property). make_trait p.0 p.1) (λ x. x) (λ p. refl) (λ p t. refl) (λ l. ((l.token, l.property), refl))
     (numbered make_trait _ (λ k. mapped (make_trait k) (plainly (λ t. property_of (class_at t)) property_word property_reader (λ p. refl) Context)))
@@ -147,7 +147,7 @@ property_rule = told_as a_trait (λ (p : ℕ × Property). make_trait p.0 p.1) (
 abbrev trait_grabs : Option Trait → Option Word → Bool
 trait_grabs = option_grabs begins_property a_trait never
 
-optional_property_rule : {live : Type 0} {late : Word → Bool} {d : ℕ} → Rule live late never (option begins_property a_trait never) (λ o. o) d spec.optional_property
+optional_property_rule : {live : Type 0} {d : ℕ} → Rule live never (option begins_property a_trait never) (λ o. o) d spec.optional_property
 optional_property_rule = perhaps begins_property never trait_starts (λ t e. refl) property_rule
 
 -- name "="
@@ -157,7 +157,7 @@ a_c_name = record { told = c_name_told; grabs = λ _ _. false }
 c_name_starts : Starts (is classes.Name) a_c_name
 c_name_starts n x r h = name_class x.bytes h.1.0
 
-c_name_rule : {live : Type 0} {late : Word → Bool} {d : ℕ} → Rule live late never a_c_name (λ x. x) d spec.c_name
+c_name_rule : {live : Type 0} {d : ℕ} → Rule live never a_c_name (λ x. x) d spec.c_name
 unfolding spec.c_name
 c_name_rule = told_as a_c_name (λ (p : Name × Unit {0}). p.0) (λ x. x) (λ p. refl) (λ p t. refl) (λ n. ((n, tt), refl))
     (seq (λ n. n) (λ n _. n) _ (name_rule (λ t e. refl)) (λ n. last (is classes.Assign) (word_of classes.Assign) n (knows classes.Assign refl) refl))
@@ -165,7 +165,7 @@ c_name_rule = told_as a_c_name (λ (p : Name × Unit {0}). p.0) (λ x. x) (λ p.
 abbrev c_name_grabs : (Option Word → Bool) → Option Name → Option Word → Bool
 c_name_grabs before = option_grabs (is classes.Name) a_c_name before
 
-optional_c_name_rule : {live : Type 0} {late : Word → Bool} {d : ℕ} (before : Option Word → Bool) → Apart (is classes.Name) before → Rule live late before (option (is classes.Name) a_c_name before) (λ o. o) d spec.optional_c_name
+optional_c_name_rule : {live : Type 0} {d : ℕ} (before : Option Word → Bool) → Apart (is classes.Name) before → Rule live before (option (is classes.Name) a_c_name before) (λ o. o) d spec.optional_c_name
 optional_c_name_rule before apart = perhaps (is classes.Name) before c_name_starts apart c_name_rule
 
 name_not_of_trait : (p : Option Trait) → Apart (is classes.Name) (trait_grabs p)
@@ -213,12 +213,12 @@ kind_made (inr p) = refl
 function_starts : Starts (is classes.Function) function_kind
 function_starts n x r h = (knows classes.Function refl).yes
 
-function_rule : {live : Type 0} {late : Word → Bool} {d : ℕ} → Rule live late never function_kind (λ p. import_kinds.Function p.0 p.1) d spec.import_function
+function_rule : {live : Type 0} {d : ℕ} → Rule live never function_kind (λ p. import_kinds.Function p.0 p.1) d spec.import_function
 unfolding spec.import_function
 function_rule = numbered (λ k o. import_kinds.Function k o) _
     (λ k. token_then (is classes.Function) (word_of classes.Function) (knows classes.Function refl) refl (mapped (λ o. import_kinds.Function k o) (outcome_rule never (λ t e. refl))))
 
-import_kind_alone : {live : Type 0} {late : Word → Bool} {d : ℕ} → Rule live late never an_import_kind (λ x. x) d spec.import_kind
+import_kind_alone : {live : Type 0} {d : ℕ} → Rule live never an_import_kind (λ x. x) d spec.import_kind
 unfolding spec.import_kind spec.import_task
 import_kind_alone = told_as an_import_kind kind_of (λ x. x) kind_tells kind_goes all_kinds
     (remade kind_of kind_made
@@ -228,7 +228,7 @@ import_kind_starts : Starts begins_kind an_import_kind
 import_kind_starts n (import_kinds.Function k o) r h = in_right _ _ (knows classes.Function refl).yes
 import_kind_starts n (import_kinds.Task k) r h = in_left _ _ (knows classes.Task refl).yes
 
-import_kind_rule : {live : Type 0} {late : Word → Bool} {d : ℕ} (before : Option Word → Bool) → Apart begins_kind before → Rule live late before an_import_kind (λ x. x) d spec.import_kind
+import_kind_rule : {live : Type 0} {d : ℕ} (before : Option Word → Bool) → Apart begins_kind before → Rule live before an_import_kind (λ x. x) d spec.import_kind
 import_kind_rule before apart = put_apart begins_kind before import_kind_starts apart import_kind_alone
 
 name_not_of_kind : (i : ImportKind) → Apart (is classes.Name) (an_import_kind.grabs i)
@@ -264,7 +264,7 @@ import_starts n x r h = (knows classes.Import refl).yes
 semicolon_not_of_formals : (o : Option (List ImportFormal)) → Apart (is classes.Semicolon) ((option (is classes.OpenParen) some_import_formals never).grabs o)
 semicolon_not_of_formals o = option_apart (is classes.Semicolon) (is classes.OpenParen) never some_import_formals (apart_of classes.Semicolon classes.OpenParen refl) (λ t e. refl) (λ x t e. refl) o
 
-pub import_rule : {live : Type 0} {late : Word → Bool} {d : ℕ} → Rule live late never an_import (λ x. x) d spec.import
+pub import_rule : {live : Type 0} {d : ℕ} → Rule live never an_import (λ x. x) d spec.import
 unfolding spec.import
 import_rule = told_as an_import (λ (p : ℕ × ImportParts). make_import p.0 p.1) (λ x. x) (λ p. refl) (λ p t. refl)
     (λ i. ((i.token, (i.text, (i.property, (i.c_name, (i.kind, (i.name, (i.formals, tt))))))), refl))
@@ -312,7 +312,7 @@ task_starts n x r h = (knows classes.Task refl).yes
 function_word_starts : Starts (is classes.Function) (one (word_of classes.Function))
 function_word_starts n x r h = (knows classes.Function refl).yes
 
-export_kind_alone : {live : Type 0} {late : Word → Bool} {d : ℕ} → Rule live late never an_export_kind (λ x. x) d spec.export_kind
+export_kind_alone : {live : Type 0} {d : ℕ} → Rule live never an_export_kind (λ x. x) d spec.export_kind
 unfolding spec.export_kind
 export_kind_alone = told_as an_export_kind task_of (λ x. x) export_kind_tells export_kind_goes all_export_kinds
     (remade task_of task_made
@@ -323,7 +323,7 @@ export_kind_starts : Starts begins_kind an_export_kind
 export_kind_starts n true r h = in_left _ _ (knows classes.Task refl).yes
 export_kind_starts n false r h = in_right _ _ (knows classes.Function refl).yes
 
-export_kind_rule : {live : Type 0} {late : Word → Bool} {d : ℕ} (before : Option Word → Bool) → Apart begins_kind before → Rule live late before an_export_kind (λ x. x) d spec.export_kind
+export_kind_rule : {live : Type 0} {d : ℕ} (before : Option Word → Bool) → Apart begins_kind before → Rule live before an_export_kind (λ x. x) d spec.export_kind
 export_kind_rule before apart = put_apart begins_kind before export_kind_starts apart export_kind_alone
 
 abbrev ExportParts : Type 0
@@ -338,7 +338,7 @@ an_export = record { told = export_told; grabs = λ _ _. false }
 pub export_starts : Starts (is classes.Export) an_export
 export_starts n x r h = (knows classes.Export refl).yes
 
-pub export_rule : {live : Type 0} {late : Word → Bool} {d : ℕ} → Rule live late never an_export (λ x. x) d spec.export
+pub export_rule : {live : Type 0} {d : ℕ} → Rule live never an_export (λ x. x) d spec.export
 unfolding spec.export
 export_rule = told_as an_export (λ (p : ℕ × ExportParts). make_export p.0 p.1) (λ x. x) (λ p. refl) (λ p t. refl)
     (λ e. ((e.token, (e.text, (e.c_name, (e.task, (e.name, tt))))), refl))

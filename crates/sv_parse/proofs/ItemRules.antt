@@ -53,7 +53,7 @@ an_instance = pair a_name (λ _. pair a_name (λ _. after_names))
 instance_starts : Starts (is classes.Name) an_instance
 instance_starts n x r h = name_class x.0.bytes h.1.0
 
-instance_rule : {live : Type 0} {late : Word → Bool} {d : ℕ} → Rule live late never an_instance (λ p. items.Instance p.0 p.1.0) d spec.instance
+instance_rule : {live : Type 0} {d : ℕ} → Rule live never an_instance (λ p. items.Instance p.0 p.1.0) d spec.instance
 unfolding spec.instance
 instance_rule = seq (λ m. m) (λ m p. items.Instance m p.0) _ (name_rule (λ t e. refl))
     (λ m. seq (λ n. n) (λ n u. items.Instance m n) _ (name_rule (λ t e. refl))
@@ -223,11 +223,11 @@ item_starts n (items.Task t) r h = refl
 item_starts n (items.Initial k s) r h = refl
 item_starts n (items.Instance m k) r h = name_item (Some (a_word m.bytes)) (name_class m.bytes h.1.0)
 
-initial_rule : {live : Type 0} {late : Word → Bool} (d : ℕ) → Rule live late never an_initial (λ p. items.Initial p.0 p.1) d (spec.initial d)
+initial_rule : {live : Type 0} (d : ℕ) → Rule live never an_initial (λ p. items.Initial p.0 p.1) d (spec.initial d)
 unfolding spec.initial
 initial_rule d = numbered (λ k s. items.Initial k s) _ (λ k. token_then (is classes.Initial) (word_of classes.Initial) (knows classes.Initial refl) refl (mapped (λ s. items.Initial k s) (stmt_rule d (λ t e. refl))))
 
-pub item_rule : {live : Type 0} {late : Word → Bool} (d : ℕ) → Rule live late never an_item (λ x. x) d (spec.item d)
+pub item_rule : {live : Type 0} (d : ℕ) → Rule live never an_item (λ x. x) d (spec.item d)
 unfolding spec.item spec.foreign_item spec.routine_item spec.running_item
 item_rule d = told_as an_item item_of (λ x. x) item_tells item_goes all_items
     (remade item_of item_made

@@ -1,5 +1,5 @@
 -- What the answer to the words of a file has to be.
-use Rattle.std.specs.Prelude.{ℕ, ◌≤◌, List, length, Result, Ok, Err}
+use Rattle.std.specs.Prelude.{◌≡◌, ◌≢◌, ℕ, ◌≤◌, List, length, Result, Ok, Err}
 use Rattle.dpi_grammar.specs.Faults.{IsParsed, IsRefused, IsTooDeep, IsUnambiguous}
 use Rattle.dpi_lex.specs.Words.{Word}
 use Rattle.sv_tree.specs.declared.items.SvFile.{SvFile}
@@ -29,3 +29,7 @@ IsWithin count faults.NoMemory = Unit {0}
 -- two files with the same words are the same file
 abbrev pub FilesAreUnambiguous : Type 0
 FilesAreUnambiguous = IsUnambiguous file_told
+
+-- two answers to the same words are the same answer, unless memory ran out
+abbrev pub AnswerIsOne : Type 0
+AnswerIsOne = (ws : List Word) (a b : Result SvFile ParseFault) → a ≢ Err faults.NoMemory → b ≢ Err faults.NoMemory → IsAnswer ws a → IsAnswer ws b → a ≡ b

@@ -20,7 +20,7 @@ mod laws;
 mod modules;
 mod parser;
 
-pub use laws::files_are_unambiguous;
+pub use laws::{answer_is_one, files_are_unambiguous};
 pub use parser::{ParseFault, parse};
 
 #[cfg(test)]

@@ -30,8 +30,8 @@ use Rattle.sv_stmt.proofs.StmtForms.{stmts_repeat, stmt_apart}
 
 -- ---- stmt*
 
-pub statements_by_rule : {live : Type 0} {late : Word → Bool} {m : ℕ} {p : Parses Stmt} (prior : Option Word → Bool) (d : ℕ) → Apart begins_statement prior → Rule live late never a_stmt (λ x. x) m p
-    → Rule live late prior (some_statements prior) (λ xs. xs) m (spec.statements_by d p)
+pub statements_by_rule : {live : Type 0} {m : ℕ} {p : Parses Stmt} (prior : Option Word → Bool) (d : ℕ) → Apart begins_statement prior → Rule live never a_stmt (λ x. x) m p
+    → Rule live prior (some_statements prior) (λ xs. xs) m (spec.statements_by d p)
 statements_by_rule prior d apart good = many begins_statement prior stmts_repeat apart [] good
 
 -- what they go on with
@@ -82,7 +82,7 @@ before_end l vs =
 statements_end : (l : Option Label) (vs : List Variables) (ss : List Stmt) → (some_statements ((some_variables ((a_label_or_none never).grabs l)).grabs vs)).grabs ss (Some (word_of classes.End)) ≡ false
 statements_end l vs ss = at_word classes.End refl _ (statements_apart classes.End refl refl refl _ (before_end l vs) ss)
 
-pub block_rule : {live : Type 0} {late : Word → Bool} (m : ℕ) (e : ℕ × Parses Stmt) → NestedGood late live m e → Rule live late never a_block_stmt block_of m (spec.block_by e.0 e.1)
+pub block_rule : {live : Type 0} (m : ℕ) (e : ℕ × Parses Stmt) → NestedGood live m e → Rule live never a_block_stmt block_of m (spec.block_by e.0 e.1)
 unfolding spec.block_by is_class
 block_rule m e good =
     keyword_rule classes.Begin (λ k p. block_of (k, p)) (λ k s. and_then (optional_label s) (λ l s. _)) refl

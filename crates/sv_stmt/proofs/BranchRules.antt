@@ -51,13 +51,13 @@ another_off n s r h = or_both _ _ (ap (is classes.If) (first_same n s r h.1) ∙
 
 -- ---- rules
 
-one_more_rule : {live : Type 0} {late : Word → Bool} (m k : ℕ) (e : ℕ × Parses Stmt) → NestedGood late live m e → Rule live late never one_more (λ p. parts.ElseIf (else_if k p.0 p.1)) m (spec.else_if_tail e.0 e.1 k)
+one_more_rule : {live : Type 0} (m k : ℕ) (e : ℕ × Parses Stmt) → NestedGood live m e → Rule live never one_more (λ p. parts.ElseIf (else_if k p.0 p.1)) m (spec.else_if_tail e.0 e.1 k)
 unfolding spec.else_if_tail
 one_more_rule m k e good =
     token_then (is classes.If) (word_of classes.If) (knows classes.If refl) refl
     (seq (λ c. c) (λ c b. parts.ElseIf (else_if k c b)) _ (at_depth spec.condition e.0 good.0 condition_rule) (λ c. mapped (λ b. parts.ElseIf (else_if k c b)) good.1))
 
-another_rule : {live : Type 0} {late : Word → Bool} (m k : ℕ) (e : ℕ × Parses Stmt) → NestedGood late live m e → Rule live late is_if another (λ s. parts.Else (else_part k s)) m (spec.else_tail e.0 e.1 k)
+another_rule : {live : Type 0} (m k : ℕ) (e : ℕ × Parses Stmt) → NestedGood live m e → Rule live is_if another (λ s. parts.Else (else_part k s)) m (spec.else_tail e.0 e.1 k)
 unfolding spec.else_tail
 another_rule m k e good = narrowed is_if not_if a_stmt another_passes (another_viable m) another_off (mapped (λ b. parts.Else (else_part k b)) good.1)
 
@@ -65,7 +65,7 @@ made_by : (k : ℕ) (x : (Expr × Stmt) ⊎ Stmt) → made_of (part_of k x) ≡ 
 made_by k (inl p) = refl
 made_by k (inr s) = refl
 
-else_part_rule : {live : Type 0} {late : Word → Bool} (m : ℕ) (e : ℕ × Parses Stmt) → NestedGood late live m e → Rule live late never a_part made_of m (spec.else_part e.0 e.1)
+else_part_rule : {live : Type 0} (m : ℕ) (e : ℕ × Parses Stmt) → NestedGood live m e → Rule live never a_part made_of m (spec.else_part e.0 e.1)
 unfolding spec.else_part
 else_part_rule m e good =
     told_as a_part (λ p. part_of p.0 p.1) made_of part_told part_grabs part_all
@@ -77,7 +77,7 @@ sorted : (x : ElseIf ⊎ Else) → x ≡ spec.sort (made_of x)
 sorted (inl p) = refl
 sorted (inr p) = refl
 
-sorted_rule : {live : Type 0} {late : Word → Bool} (m : ℕ) (e : ℕ × Parses Stmt) → NestedGood late live m e → Rule live late never a_part (λ w. w) m (λ s. and_then (spec.else_part e.0 e.1 s) (λ x s. Ok (spec.sort x, s)))
+sorted_rule : {live : Type 0} (m : ℕ) (e : ℕ × Parses Stmt) → NestedGood live m e → Rule live never a_part (λ w. w) m (λ s. and_then (spec.else_part e.0 e.1 s) (λ x s. Ok (spec.sort x, s)))
 sorted_rule m e good = remade (λ w. w) sorted (mapped spec.sort (else_part_rule m e good))
 
 part_goes_on : (w : ElseIf ⊎ Else) → GoesOn (is classes.Else) a_part (a_part.grabs w) (a_part.told w).unended
@@ -88,10 +88,10 @@ else_parts : Parts (is classes.Else) a_part
 unfolding is_class
 else_parts = record { starts = part_starts; stop = refl; goes_on = part_goes_on }
 
-parts_rule : {live : Type 0} {late : Word → Bool} (m : ℕ) (e : ℕ × Parses Stmt) → NestedGood late live m e → (s : Stmt) → Rule live late (a_stmt.grabs s) (parts_behind s) (λ p. p) m (spec.else_parts e.0 e.1)
+parts_rule : {live : Type 0} (m : ℕ) (e : ℕ × Parses Stmt) → NestedGood live m e → (s : Stmt) → Rule live (a_stmt.grabs s) (parts_behind s) (λ p. p) m (spec.else_parts e.0 e.1)
 parts_rule m e good s = branched (is classes.Else) else_parts (a_stmt.grabs s) (stmt_told s).unended (λ t go. open_else (stmt_told s).unended (stmt_bare s) t go) (sorted_rule m e good)
 
-pub if_rule : {live : Type 0} {late : Word → Bool} (m : ℕ) (e : ℕ × Parses Stmt) → NestedGood late live m e → Rule live late never an_if_stmt if_of m (spec.if_by e.0 e.1)
+pub if_rule : {live : Type 0} (m : ℕ) (e : ℕ × Parses Stmt) → NestedGood live m e → Rule live never an_if_stmt if_of m (spec.if_by e.0 e.1)
 unfolding spec.if_by spec.if_tail spec.if_end
 if_rule m e good =
     keyword_rule classes.If (λ k p. if_of (k, p)) (λ k s. and_then (spec.condition e.0 s) (λ c s. _)) refl

@@ -101,29 +101,29 @@ compute_off : Off begins_step a_compute
 compute_off = starts_off (λ t. is_there (assign_of (class_at t))) begins_step a_compute compute_front
     (value_apart (λ t. assign_of (class_at t)) assign_word assign_reader begins_step (λ o. ap (λ c. is_there (step_of c)) (class_at_word (assign_class o) (assign_fixed o)) ∙ no_step o))
 
-assign_tail_rule : {live : Type 0} {late : Word → Bool} (d : ℕ) (l : Lvalue) → Rule live late never an_assign (λ p. changes.Assign l p.0 p.1) d (spec.assign_tail d l)
+assign_tail_rule : {live : Type 0} (d : ℕ) (l : Lvalue) → Rule live never an_assign (λ p. changes.Assign l p.0 p.1) d (spec.assign_tail d l)
 unfolding spec.assign_tail
 assign_tail_rule d l = keyword_rule classes.Assign (λ k i. changes.Assign l k i) (λ k s. and_then (init d s) (λ i s. _)) refl (λ k. mapped (λ i. changes.Assign l k i) (init_rule d (λ t e. refl)))
 
-step_tail_rule : {live : Type 0} {late : Word → Bool} {d : ℕ} (l : Lvalue) → Rule live late never a_step (λ p. changes.Step l p.0 p.1) d (spec.step_tail l)
+step_tail_rule : {live : Type 0} {d : ℕ} (l : Lvalue) → Rule live never a_step (λ p. changes.Step l p.0 p.1) d (spec.step_tail l)
 unfolding spec.step_tail
 step_tail_rule l = numbered (λ k o. changes.Step l k o) (λ k s. and_then (token (λ t. step_of (class_at t)) s) (λ o s. _))
     (λ k. mapped (λ o. changes.Step l k o) (plainly (λ t. step_of (class_at t)) step_word step_reader (λ o. refl) Increment))
 
-compute_tail_rule : {live : Type 0} {late : Word → Bool} (d : ℕ) (l : Lvalue) → Rule live late never a_compute (λ p. changes.Compute l p.0 p.1.0 p.1.1) d (spec.compute_tail d l)
+compute_tail_rule : {live : Type 0} (d : ℕ) (l : Lvalue) → Rule live never a_compute (λ p. changes.Compute l p.0 p.1.0 p.1.1) d (spec.compute_tail d l)
 unfolding spec.compute_tail
 compute_tail_rule d l = numbered (λ k p. changes.Compute l k p.0 p.1) (λ k s. and_then (token (λ t. assign_of (class_at t)) s) (λ o s. _))
     (λ k. seq (λ o. o) (λ o e. changes.Compute l k o e) _ (plainly (λ t. assign_of (class_at t)) assign_word assign_reader (λ o. refl) assigns.Add)
     (λ o. mapped (λ e. changes.Compute l k o e) (expr_rule d (λ t e. refl))))
 
-change_tail_never : {live : Type 0} {late : Word → Bool} (d : ℕ) (l : Lvalue) → Rule live late never a_change_tail (change_of l) d (spec.change_tail d l)
+change_tail_never : {live : Type 0} (d : ℕ) (l : Lvalue) → Rule live never a_change_tail (change_of l) d (spec.change_tail d l)
 unfolding spec.change_tail is_class
 change_tail_never d l =
     choice (is classes.Assign) (keyword_front classes.Assign an_init refl)
     (off_by classes.Assign (λ c. is_there (step_of c) || is_there (assign_of c)) (sum a_step a_compute) (sum_fronts (λ c. is_there (step_of c)) (λ c. is_there (assign_of c)) a_step a_compute step_front compute_front) refl)
     (assign_tail_rule d l) (choice begins_step step_front compute_off (step_tail_rule l) (compute_tail_rule d l))
 
-pub change_tail_rule : {live : Type 0} {late : Word → Bool} {before : Option Word → Bool} (d : ℕ) (l : Lvalue) → Apart (by_class is_change) before → Rule live late before a_change_tail (change_of l) d (spec.change_tail d l)
+pub change_tail_rule : {live : Type 0} {before : Option Word → Bool} (d : ℕ) (l : Lvalue) → Apart (by_class is_change) before → Rule live before a_change_tail (change_of l) d (spec.change_tail d l)
 change_tail_rule {before = before} d l apart = put_apart (by_class is_change) before change_front apart (change_tail_never d l)
 
 -- it doesn't go on with the word of this class
@@ -157,7 +157,7 @@ change_all (changes.Assign l k i) = ((l, inl (k, i)), refl)
 change_all (changes.Step l k o) = ((l, inr (inl (k, o))), refl)
 change_all (changes.Compute l k o e) = ((l, inr (inr (k, (o, e)))), refl)
 
-pub change_rule : {live : Type 0} {late : Word → Bool} {before : Option Word → Bool} (d : ℕ) → Apart (is classes.Name) before → Rule live late before a_change (λ x. x) d (spec.change d)
+pub change_rule : {live : Type 0} {before : Option Word → Bool} (d : ℕ) → Apart (is classes.Name) before → Rule live before a_change (λ x. x) d (spec.change d)
 unfolding spec.change is_class
 change_rule d apart =
     told_as a_change (λ (p : Lvalue × ChangeTail). change_of p.0 p.1) (λ x. x) (λ p. change_told_by p.0 p.1) (λ p t. change_grabs_by p.0 p.1 t) change_all
@@ -208,7 +208,7 @@ start_all : (z : Start) → (x : AnyStart) × (start_of x ≡ z)
 start_all (starts.Declare t n k e) = (inl (t, (n, (k, e))), refl)
 start_all (starts.Assign l k e) = (inr (l, (k, e)), refl)
 
-declared_rule : {live : Type 0} {late : Word → Bool} (d : ℕ) → Rule live late never a_declared_start (λ p. starts.Declare p.0 p.1.0 p.1.1.0 p.1.1.1) d (spec.declared_start d)
+declared_rule : {live : Type 0} (d : ℕ) → Rule live never a_declared_start (λ p. starts.Declare p.0 p.1.0 p.1.1.0 p.1.1.1) d (spec.declared_start d)
 unfolding spec.declared_start
 declared_rule d =
     seq (λ t. t) (λ t p. starts.Declare t p.0 p.1.0 p.1.1) _ (type_rule (λ t e. refl))
@@ -218,7 +218,7 @@ declared_rule d =
 equal_starts : Starts (is classes.Assign) an_equal
 equal_starts n x r h = (knows classes.Assign refl).yes
 
-assigned_rule : {live : Type 0} {late : Word → Bool} (d : ℕ) → Rule live late never an_assigned_start (λ p. starts.Assign p.0 p.1.0 p.1.1) d (spec.assigned_start d)
+assigned_rule : {live : Type 0} (d : ℕ) → Rule live never an_assigned_start (λ p. starts.Assign p.0 p.1.0 p.1.1) d (spec.assigned_start d)
 unfolding spec.assigned_start
 assigned_rule d =
     seq (λ l. l) (λ l p. starts.Assign l p.0 p.1) _ (lvalue_rule d (λ t e. refl))
@@ -227,13 +227,13 @@ assigned_rule d =
 
 pub lvalue_starts : Starts (is classes.Name) an_lvalue
 unfolding is_class
-lvalue_starts = starts_of (is classes.Name) refl (λ l. refl) (lvalue_rule {live = Unit {0}} {late = λ w. false} 0 (but (is classes.Name)))
+lvalue_starts = starts_of (is classes.Name) refl (λ l. refl) (lvalue_rule {live = Unit {0}} 0 (but (is classes.Name)))
 
 assigned_off : Off begins_data_type an_assigned_start
 unfolding is_class
 assigned_off = starts_off (is classes.Name) begins_data_type an_assigned_start (pair_starts (is classes.Name) an_lvalue (λ _. an_equal) lvalue_starts) (apart_by classes.Name is_type_class refl)
 
-pub start_rule : {live : Type 0} {late : Word → Bool} (d : ℕ) → Rule live late never a_start (λ x. x) d (spec.start d)
+pub start_rule : {live : Type 0} (d : ℕ) → Rule live never a_start (λ x. x) d (spec.start d)
 unfolding spec.start
 start_rule d =
     told_as a_start start_of (λ x. x) start_of_told start_of_grabs start_all

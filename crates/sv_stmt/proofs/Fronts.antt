@@ -40,18 +40,18 @@ keyword c S = pair (place never) (λ _. behind (word_of c) S)
 pub keyword_front : {X : Type 0} (c : Class) (S : Kind Word X) → is_fixed c ≡ true → Fronts (is_class c) (keyword c S)
 keyword_front c S fixed n x r h = (knows c fixed).yes
 
-pub keyword_rule : {X Z : Type 0} {live : Type 0} {late : Word → Bool} {S : Kind Word X} {d : ℕ} (c : Class) (make : ℕ → X → Z) (q : ℕ → Parses Z) → is_fixed c ≡ true
-    → ((k : ℕ) → Rule live late never S (make k) d (q k)) → Rule live late never (keyword c S) (λ p. make p.0 p.1) d (λ s. and_then (expect (is c) s) (λ _. q s.place))
+pub keyword_rule : {X Z : Type 0} {live : Type 0} {S : Kind Word X} {d : ℕ} (c : Class) (make : ℕ → X → Z) (q : ℕ → Parses Z) → is_fixed c ≡ true
+    → ((k : ℕ) → Rule live never S (make k) d (q k)) → Rule live never (keyword c S) (λ p. make p.0 p.1) d (λ s. and_then (expect (is c) s) (λ _. q s.place))
 keyword_rule {S = S} c make q fixed k =
     numbered make (λ n s. and_then (expect (is c) s) (λ _. q n)) (λ n. token_then (is c) (word_of c) (knows c fixed) refl (k n))
 
 -- ---- parsers of a number of levels
 
 -- Where it is live, the number is that of the levels left.
-pub at_depth : {X Z : Type 0} {live : Type 0} {late : Word → Bool} {before : Option Word → Bool} {K : Kind Word X} {make : X → Z} {m : ℕ} (p : ℕ → Parses Z) (d : ℕ) → (live → d ≡ m)
-    → ((d : ℕ) → Rule live late before K make d (p d)) → Rule live late before K make m (p d)
-at_depth {late = late} {K = K} {make = make} {m = m} p d same k = record {
-  exact = λ l s b. subst (λ d. Exact late K make m s (p d s)) (sym (same l)) ((k m).exact l s b);
+pub at_depth : {X Z : Type 0} {live : Type 0} {before : Option Word → Bool} {K : Kind Word X} {make : X → Z} {m : ℕ} (p : ℕ → Parses Z) (d : ℕ) → (live → d ≡ m)
+    → ((d : ℕ) → Rule live before K make d (p d)) → Rule live before K make m (p d)
+at_depth {K = K} {make = make} {m = m} p d same k = record {
+  exact = λ l s b. subst (λ d. Exact K make m s (p d s)) (sym (same l)) ((k m).exact l s b);
   closes = (k m).closes;
   keeps = (k m).keeps;
 }

@@ -106,8 +106,8 @@ init_viable d n = form_viable an_expr an_init inits.Value value_form d n [] (exp
 -- ---- rules
 
 -- what reads an init one level further in is exact
-abbrev pub InitGood : (Word → Bool) → Type 0 → ℕ → Parses Init → Type 0
-InitGood late live m i = Rule live late never an_init (λ x. x) m i
+abbrev pub InitGood : Type 0 → ℕ → Parses Init → Type 0
+InitGood live m i = Rule live never an_init (λ x. x) m i
 
 inits_stop : (xs : List Init) → (commas_of an_init).grabs xs (Some (word_of classes.CloseBrace)) ≡ false
 inits_stop xs =
@@ -115,7 +115,7 @@ inits_stop xs =
     (commas_apart (is classes.CloseBrace) (is classes.Comma) (word_of classes.Comma) an_init (apart_of classes.CloseBrace classes.Comma refl)
     (λ i. word_apart classes.CloseBrace refl (an_init.grabs i) (init_stops classes.CloseBrace refl refl i)) xs)
 
-pattern_rule : {live : Type 0} {late : Word → Bool} (m : ℕ) (i : Parses Init) → InitGood late live m i → Rule live late never a_pattern pattern_of m (spec.pattern_by i)
+pattern_rule : {live : Type 0} (m : ℕ) (i : Parses Init) → InitGood live m i → Rule live never a_pattern pattern_of m (spec.pattern_by i)
 unfolding spec.pattern_by is_class
 pattern_rule m i good =
     keyword_rule classes.Pattern (λ k p. inits.Pattern k p.0) (λ k s. and_then (separated (is classes.Comma) i s) (λ xs s. _)) refl
@@ -123,8 +123,8 @@ pattern_rule m i good =
     (separate (is classes.Comma) (word_of classes.Comma) (knows classes.Comma refl) refl (init_stops classes.Comma refl refl) good good)
     (λ xs. last (is classes.CloseBrace) (word_of classes.CloseBrace) (inits.Pattern k xs) (knows classes.CloseBrace refl) (inits_stop xs)))
 
-pattern_enters : (late : Word → Bool) → Enters (InitGood late) late (is classes.Pattern) (word_of classes.Pattern) a_pattern pattern_of spec.pattern_by
-pattern_enters late = record {
+pattern_enters : Enters InitGood (is classes.Pattern) (word_of classes.Pattern) a_pattern pattern_of spec.pattern_by
+pattern_enters = record {
   rule = λ live m i good. pattern_rule m i good;
   some = refuse;
   dead = λ m. dead (init_viable m);
@@ -132,16 +132,16 @@ pattern_enters late = record {
   starts = λ n x r h. refl;
 }
 
-pub init_by : {late : Word → Bool} (d : ℕ) (inner : spec.Patterns) → Inside (InitGood late) d inner → Rule (Unit {0}) late never an_init (λ x. x) d (spec.init_in d inner)
+pub init_by : (d : ℕ) (inner : spec.Patterns) → Inside InitGood d inner → Rule (Unit {0}) never an_init (λ x. x) d (spec.init_in d inner)
 unfolding spec.init_in
-init_by {late = late} d inner h =
+init_by d inner h =
     told_as an_init init_of (λ x. x) init_of_told init_of_grabs init_all
-    (choice_deeper (InitGood late) late (is classes.Pattern) (word_of classes.Pattern) a_pattern pattern_of spec.pattern_by (pattern_enters late) an_expr inits.Value
+    (choice_deeper InitGood (is classes.Pattern) (word_of classes.Pattern) a_pattern pattern_of spec.pattern_by pattern_enters an_expr inits.Value
     (off_by classes.Pattern is_start an_expr expr_starts refl) refl inner h (expr_viable 0) (mapped inits.Value (expr_rule d (λ t e. refl))))
 
-pub init_inside : (late : Word → Bool) (d : ℕ) → Inside (InitGood late) d (spec.patterns d)
-init_inside late zero = refl
-init_inside late (suc d) = (d, omega arith, init_by d (spec.patterns d) (init_inside late d))
+pub init_inside : (d : ℕ) → Inside InitGood d (spec.patterns d)
+init_inside zero = refl
+init_inside (suc d) = (d, omega arith, init_by d (spec.patterns d) (init_inside d))
 
-pub init_rule : {live : Type 0} {late : Word → Bool} {before : Option Word → Bool} (d : ℕ) → Apart begins_init before → Rule live late before an_init (λ x. x) d (spec.init d)
-init_rule {late = late} {before = before} d apart = put_apart begins_init before init_starts apart (lively (init_by d (spec.patterns d) (init_inside late d)))
+pub init_rule : {live : Type 0} {before : Option Word → Bool} (d : ℕ) → Apart begins_init before → Rule live before an_init (λ x. x) d (spec.init d)
+init_rule {before = before} d apart = put_apart begins_init before init_starts apart (lively (init_by d (spec.patterns d) (init_inside d)))

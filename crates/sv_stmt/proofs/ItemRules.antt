@@ -38,7 +38,7 @@ use Rattle.sv_stmt.proofs.Fronts.{Fronts, by_class, off_by, at_depth, at_word, e
 abbrev pub a_condition : Kind Word Expr
 a_condition = record { told = condition_told; grabs = λ _. never }
 
-pub condition_rule : {live : Type 0} {late : Word → Bool} (d : ℕ) → Rule live late never a_condition (λ x. x) d (spec.condition d)
+pub condition_rule : {live : Type 0} (d : ℕ) → Rule live never a_condition (λ x. x) d (spec.condition d)
 unfolding spec.condition
 condition_rule d =
     told_as a_condition (λ (p : Expr × Unit {0}). p.0) (λ x. x) (λ p. refl) (λ p t. refl) (λ e. ((e, tt), refl))
@@ -46,8 +46,8 @@ condition_rule d =
     (seq (λ e. e) (λ e _. e) _ (expr_rule d (λ t e. refl)) (λ e. last (is classes.CloseParen) (word_of classes.CloseParen) e (knows classes.CloseParen refl) (expr_stops classes.CloseParen refl refl e))))
 
 -- what reads a statement one level further in: where it is live, the number is that of the levels left there
-abbrev pub NestedGood : (Word → Bool) → Type 0 → ℕ → ℕ × Parses Stmt → Type 0
-NestedGood late live m e = (live → e.0 ≡ m) × Rule live late never a_stmt (λ x. x) m e.1
+abbrev pub NestedGood : Type 0 → ℕ → ℕ × Parses Stmt → Type 0
+NestedGood live m e = (live → e.0 ≡ m) × Rule live never a_stmt (λ x. x) m e.1
 
 -- ---- expr,+ | "default"
 
@@ -84,7 +84,7 @@ exprs_starts : Starts begins_expr some_exprs
 exprs_starts n [] r h = let e : false ≡ true = h.0 in absurd (cc)
 exprs_starts n (x ∷ xs) r h = pair_starts begins_expr an_expr (λ _. behind_commas) expr_starts n (x, xs) r h
 
-values_rule : {live : Type 0} {late : Word → Bool} (d : ℕ) → Rule live late never some_values (λ x. x) d (spec.item_values d)
+values_rule : {live : Type 0} (d : ℕ) → Rule live never some_values (λ x. x) d (spec.item_values d)
 unfolding spec.item_values
 values_rule d =
     told_as some_values values_of (λ x. x) values_of_told values_of_grabs values_all
@@ -114,7 +114,7 @@ item_of p = item p.0 p.1.0 p.1.1
 item_all : (z : CaseItem) → (p : ℕ × (Option (List Expr) × Stmt)) × (item_of p ≡ z)
 item_all z = let o = out-CaseItem z in ((o.token, (o.values, o.body)), roll-out-CaseItem z)
 
-pub item_rule : {live : Type 0} {late : Word → Bool} (m : ℕ) (e : ℕ × Parses Stmt) → NestedGood late live m e → Rule live late never an_item (λ x. x) m (spec.item e.0 e.1)
+pub item_rule : {live : Type 0} (m : ℕ) (e : ℕ × Parses Stmt) → NestedGood live m e → Rule live never an_item (λ x. x) m (spec.item e.0 e.1)
 unfolding spec.item
 item_rule m e good =
     told_as an_item item_of (λ x. x) (λ p. item_tells p.0 p.1.0 p.1.1) (λ p t. item_grabs_are p.0 p.1.0 p.1.1 t) item_all
@@ -155,7 +155,7 @@ items_all : (n : ℕ) (z : List CaseItem) → Is some_items n z → (p : CaseIte
 items_all n [] h = let e : false ≡ true = h.0 in absurd (cc)
 items_all n (x ∷ xs) h = ((x, xs), h, refl)
 
-pub items_rule : {live : Type 0} {late : Word → Bool} (m : ℕ) (e : ℕ × Parses Stmt) → NestedGood late live m e → Rule live late never some_items (λ x. x) m (spec.items e.0 e.1)
+pub items_rule : {live : Type 0} (m : ℕ) (e : ℕ × Parses Stmt) → NestedGood live m e → Rule live never some_items (λ x. x) m (spec.items e.0 e.1)
 unfolding spec.items
 items_rule m e good =
     shaped some_items (λ p. p.0 ∷ p.1) (λ x. x) items_form items_all

@@ -21,25 +21,25 @@ use Rattle.sv_stmt.proofs.StmtFronts.{a_case, a_guarded, a_forever, a_for, case_
 
 -- ---- "while", "repeat" and "forever"
 
-pub while_rule : {live : Type 0} {late : Word → Bool} (m : ℕ) (e : ℕ × Parses Stmt) → NestedGood late live m e → Rule live late never (a_guarded classes.While) (λ p. stmts.While p.0 p.1.0 p.1.1) m (spec.while_by e.0 e.1)
+pub while_rule : {live : Type 0} (m : ℕ) (e : ℕ × Parses Stmt) → NestedGood live m e → Rule live never (a_guarded classes.While) (λ p. stmts.While p.0 p.1.0 p.1.1) m (spec.while_by e.0 e.1)
 unfolding spec.while_by
 while_rule m e good =
     keyword_rule classes.While (λ k p. stmts.While k p.0 p.1) (λ k s. and_then (spec.condition e.0 s) (λ c s. _)) refl
     (λ k. seq (λ c. c) (λ c b. stmts.While k c b) _ (at_depth spec.condition e.0 good.0 condition_rule) (λ c. mapped (λ b. stmts.While k c b) good.1))
 
-pub repeat_rule : {live : Type 0} {late : Word → Bool} (m : ℕ) (e : ℕ × Parses Stmt) → NestedGood late live m e → Rule live late never (a_guarded classes.Repeat) (λ p. stmts.Repeat p.0 p.1.0 p.1.1) m (spec.repeat_by e.0 e.1)
+pub repeat_rule : {live : Type 0} (m : ℕ) (e : ℕ × Parses Stmt) → NestedGood live m e → Rule live never (a_guarded classes.Repeat) (λ p. stmts.Repeat p.0 p.1.0 p.1.1) m (spec.repeat_by e.0 e.1)
 unfolding spec.repeat_by
 repeat_rule m e good =
     keyword_rule classes.Repeat (λ k p. stmts.Repeat k p.0 p.1) (λ k s. and_then (spec.condition e.0 s) (λ c s. _)) refl
     (λ k. seq (λ c. c) (λ c b. stmts.Repeat k c b) _ (at_depth spec.condition e.0 good.0 condition_rule) (λ c. mapped (λ b. stmts.Repeat k c b) good.1))
 
-pub forever_rule : {live : Type 0} {late : Word → Bool} (m : ℕ) (e : ℕ × Parses Stmt) → NestedGood late live m e → Rule live late never a_forever (λ p. stmts.Forever p.0 p.1) m (spec.forever_by e.0 e.1)
+pub forever_rule : {live : Type 0} (m : ℕ) (e : ℕ × Parses Stmt) → NestedGood live m e → Rule live never a_forever (λ p. stmts.Forever p.0 p.1) m (spec.forever_by e.0 e.1)
 unfolding spec.forever_by
 forever_rule m e good = keyword_rule classes.Forever (λ k b. stmts.Forever k b) (λ k s. and_then (e.1 s) (λ b s. _)) refl (λ k. mapped (λ b. stmts.Forever k b) good.1)
 
 -- ---- "for"
 
-pub for_rule : {live : Type 0} {late : Word → Bool} (m : ℕ) (e : ℕ × Parses Stmt) → NestedGood late live m e → Rule live late never a_for for_of m (spec.for_by e.0 e.1)
+pub for_rule : {live : Type 0} (m : ℕ) (e : ℕ × Parses Stmt) → NestedGood live m e → Rule live never a_for for_of m (spec.for_by e.0 e.1)
 unfolding spec.for_by spec.for_tail
 for_rule m e good =
     keyword_rule classes.For (λ k p. for_of (k, p)) (λ k s. and_then (expect (is classes.OpenParen) s) (λ _ s. _)) refl
@@ -54,7 +54,7 @@ for_rule m e good =
 
 -- ---- "case"
 
-pub case_rule : {live : Type 0} {late : Word → Bool} (m : ℕ) (e : ℕ × Parses Stmt) → NestedGood late live m e → Rule live late never a_case case_of m (spec.case_by e.0 e.1)
+pub case_rule : {live : Type 0} (m : ℕ) (e : ℕ × Parses Stmt) → NestedGood live m e → Rule live never a_case case_of m (spec.case_by e.0 e.1)
 unfolding spec.case_by
 case_rule m e good =
     keyword_rule classes.Case (λ k p. case_of (k, p)) (λ k s. and_then (spec.condition e.0 s) (λ c s. _)) refl

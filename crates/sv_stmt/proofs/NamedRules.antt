@@ -90,16 +90,16 @@ named_front n p r h = name_class p.0.bytes h.1.0
 
 -- ---- rules
 
-name_tail_rule : {live : Type 0} {late : Word → Bool} {d : ℕ} (n : Name) → Rule live late never a_semicolon (λ _. stmts.Name n) d (spec.name_tail n)
+name_tail_rule : {live : Type 0} {d : ℕ} (n : Name) → Rule live never a_semicolon (λ _. stmts.Name n) d (spec.name_tail n)
 unfolding spec.name_tail
 name_tail_rule n = ended_rule (stmts.Name n) refl
 
-call_tail_rule : {live : Type 0} {late : Word → Bool} (n : Name) (m : ℕ) (e : Parses Expr) → Good late live m e → Rule live late never in_call (called n) m (spec.call_tail n e)
+call_tail_rule : {live : Type 0} (n : Name) (m : ℕ) (e : Parses Expr) → Good live m e → Rule live never in_call (called n) m (spec.call_tail n e)
 unfolding spec.call_tail
 call_tail_rule n m e good = seq (λ p. p) (λ p _. called n (p, tt)) _ (actuals_by_rule good) (λ p. ended_rule (called n (p, tt)) refl)
 
-call_enters : (late : Word → Bool) (n : Name) → Enters (Good late) late (is classes.OpenParen) (word_of classes.OpenParen) in_call (called n) (spec.call_tail n)
-call_enters late n = record {
+call_enters : (n : Name) → Enters Good (is classes.OpenParen) (word_of classes.OpenParen) in_call (called n) (spec.call_tail n)
+call_enters n = record {
   rule = λ live m e good. call_tail_rule n m e good;
   some = refuse;
   dead = λ m. dead (expr_viable m);
@@ -107,7 +107,7 @@ call_enters late n = record {
   starts = λ k x r h. refl;
 }
 
-changed_tail_rule : {live : Type 0} {late : Word → Bool} (d : ℕ) (n : Name) → Rule live late never a_changed (changed n) d (spec.changed_tail d n)
+changed_tail_rule : {live : Type 0} (d : ℕ) (n : Name) → Rule live never a_changed (changed n) d (spec.changed_tail d n)
 unfolding spec.changed_tail is_class
 changed_tail_rule d n =
     seq (λ ss. ss) (λ ss p. changed n (ss, p)) _ (selects_rule never d (λ t e. refl))
@@ -115,16 +115,16 @@ changed_tail_rule d n =
     (change_tail_rule d (lvalue n ss) (list_apart (by_class is_change) (is classes.OpenBracket) never a_select (apart_class is_change classes.OpenBracket refl) (λ t e. refl) (λ x t e. refl) ss))
     (λ c. ended_rule (changed n (ss, (c, tt))) (change_tail_stops classes.Semicolon refl refl c)))
 
-behind_name_rule : {late : Word → Bool} (d : ℕ) (n : Name) → Rule (Unit {0}) late never a_named_tail (named_of n) d (spec.behind_name d n)
+behind_name_rule : (d : ℕ) (n : Name) → Rule (Unit {0}) never a_named_tail (named_of n) d (spec.behind_name d n)
 unfolding spec.behind_name is_class
-behind_name_rule {late = late} d n =
+behind_name_rule d n =
     choice (is classes.Semicolon) (λ k x r h. (knows classes.Semicolon refl).yes)
     (off_by classes.Semicolon (λ c. is_class classes.OpenParen c || is_changed c) (sum (within in_call) a_changed) (sum_fronts (is_class classes.OpenParen) is_changed (within in_call) a_changed call_front changed_front) refl)
     (name_tail_rule n)
-    (choice_deeper (Good late) late (is classes.OpenParen) (word_of classes.OpenParen) in_call (called n) (spec.call_tail n) (call_enters late n) a_changed (changed n)
-    (off_by classes.OpenParen is_changed a_changed changed_front refl) refl (inside d) (inside_good late d) (changed_tail_rule {live = Unit {0}} {late = late} 0 n).closes (changed_tail_rule d n))
+    (choice_deeper Good (is classes.OpenParen) (word_of classes.OpenParen) in_call (called n) (spec.call_tail n) (call_enters n) a_changed (changed n)
+    (off_by classes.OpenParen is_changed a_changed changed_front refl) refl (inside d) (inside_good d) (changed_tail_rule {live = Unit {0}} 0 n).closes (changed_tail_rule d n))
 
-pub named_rule : {late : Word → Bool} (d : ℕ) → Rule (Unit {0}) late never a_named (λ p. named_of p.0 p.1) d (spec.named d)
+pub named_rule : (d : ℕ) → Rule (Unit {0}) never a_named (λ p. named_of p.0 p.1) d (spec.named d)
 unfolding spec.named
 named_rule d = seq (λ n. n) named_of (spec.behind_name d) (name_rule (λ t e. refl)) (λ n. behind_name_rule d n)
 

@@ -46,8 +46,8 @@ abbrev pub a_semicolon : Kind Word (Unit {0})
 a_semicolon = one (word_of classes.Semicolon)
 
 -- what ends with `;`
-pub ended_rule : {Z : Type 0} {live : Type 0} {late : Word → Bool} {before : Option Word → Bool} {d : ℕ} (z : Z) → before (Some (word_of classes.Semicolon)) ≡ false
-    → Rule live late before a_semicolon (λ _. z) d (λ s. and_then (spec.semicolon s) (λ _ s. Ok (z, s)))
+pub ended_rule : {Z : Type 0} {live : Type 0} {before : Option Word → Bool} {d : ℕ} (z : Z) → before (Some (word_of classes.Semicolon)) ≡ false
+    → Rule live before a_semicolon (λ _. z) d (λ s. and_then (spec.semicolon s) (λ _ s. Ok (z, s)))
 ended_rule z free = last (is classes.Semicolon) (word_of classes.Semicolon) z (knows classes.Semicolon refl) free
 
 -- ---- ";" and single words
@@ -55,18 +55,18 @@ ended_rule z free = last (is classes.Semicolon) (word_of classes.Semicolon) z (k
 abbrev pub an_empty : Kind Word (ℕ × Unit {0})
 an_empty = pair (place never) (λ _. a_semicolon)
 
-pub empty_rule : {live : Type 0} {late : Word → Bool} {d : ℕ} → Rule live late never an_empty (λ p. stmts.Empty p.0) d spec.empty
+pub empty_rule : {live : Type 0} {d : ℕ} → Rule live never an_empty (λ p. stmts.Empty p.0) d spec.empty
 unfolding spec.empty
 empty_rule = numbered (λ k _. stmts.Empty k) (λ k s. and_then (spec.semicolon s) (λ _ s. Ok (stmts.Empty k, s))) (λ k. ended_rule (stmts.Empty k) refl)
 
 abbrev pub a_lone : Class → Kind Word (ℕ × Unit {0})
 a_lone c = keyword c a_semicolon
 
-pub break_rule : {live : Type 0} {late : Word → Bool} {d : ℕ} → Rule live late never (a_lone classes.Break) (λ p. stmts.Break p.0) d spec.break_statement
+pub break_rule : {live : Type 0} {d : ℕ} → Rule live never (a_lone classes.Break) (λ p. stmts.Break p.0) d spec.break_statement
 unfolding spec.break_statement
 break_rule = keyword_rule classes.Break (λ k _. stmts.Break k) (λ k s. and_then (spec.semicolon s) (λ _ s. Ok (stmts.Break k, s))) refl (λ k. ended_rule (stmts.Break k) refl)
 
-pub continue_rule : {live : Type 0} {late : Word → Bool} {d : ℕ} → Rule live late never (a_lone classes.Continue) (λ p. stmts.Continue p.0) d spec.continue_statement
+pub continue_rule : {live : Type 0} {d : ℕ} → Rule live never (a_lone classes.Continue) (λ p. stmts.Continue p.0) d spec.continue_statement
 unfolding spec.continue_statement
 continue_rule = keyword_rule classes.Continue (λ k _. stmts.Continue k) (λ k s. and_then (spec.semicolon s) (λ _ s. Ok (stmts.Continue k, s))) refl (λ k. ended_rule (stmts.Continue k) refl)
 
@@ -85,7 +85,7 @@ value_end : (o : Option Expr) → a_value.grabs o (Some (word_of classes.Semicol
 value_end o = at_word classes.Semicolon refl (a_value.grabs o)
     (option_apart (is classes.Semicolon) begins_expr never an_expr (apart_by classes.Semicolon is_start refl) (λ t e. refl) (expr_apart classes.Semicolon refl refl) o)
 
-pub return_rule : {live : Type 0} {late : Word → Bool} (d : ℕ) → Rule live late never a_return (λ p. stmts.Return p.0 p.1.0) d (spec.return_statement d)
+pub return_rule : {live : Type 0} (d : ℕ) → Rule live never a_return (λ p. stmts.Return p.0 p.1.0) d (spec.return_statement d)
 unfolding spec.return_statement
 return_rule d =
     keyword_rule classes.Return (λ k p. stmts.Return k p.0) (λ k s. and_then (optional begins_expr (expr d) s) (λ o s. _)) refl
@@ -100,7 +100,7 @@ in_disable = pair a_name (λ _. a_semicolon)
 abbrev pub a_disable : Kind Word (ℕ × (Name × Unit {0}))
 a_disable = keyword classes.Disable in_disable
 
-pub disable_rule : {live : Type 0} {late : Word → Bool} {d : ℕ} → Rule live late never a_disable (λ p. stmts.Disable p.0 p.1.0) d spec.disable_statement
+pub disable_rule : {live : Type 0} {d : ℕ} → Rule live never a_disable (λ p. stmts.Disable p.0 p.1.0) d spec.disable_statement
 unfolding spec.disable_statement
 disable_rule =
     keyword_rule classes.Disable (λ k p. stmts.Disable k p.0) (λ k s. and_then (name s) (λ n s. _)) refl
@@ -111,7 +111,7 @@ disable_rule =
 abbrev pub a_status : Kind Word Number
 a_status = record { told = status_told; grabs = λ _. never }
 
-status_rule : {live : Type 0} {late : Word → Bool} {d : ℕ} → Rule live late never a_status (λ x. x) d spec.status
+status_rule : {live : Type 0} {d : ℕ} → Rule live never a_status (λ x. x) d spec.status
 unfolding spec.status
 status_rule =
     told_as a_status (λ (p : Number × Unit {0}). p.0) (λ x. x) (λ p. refl) (λ p t. refl) (λ n. ((n, tt), refl))
@@ -134,7 +134,7 @@ status_end : (o : Option Number) → a_status_or_none.grabs o (Some (word_of cla
 status_end o = at_word classes.Semicolon refl (a_status_or_none.grabs o)
     (option_apart (is classes.Semicolon) (is classes.OpenParen) never a_status (apart_of classes.Semicolon classes.OpenParen refl) (λ t e. refl) (λ x t e. refl) o)
 
-pub finish_rule : {live : Type 0} {late : Word → Bool} {d : ℕ} → Rule live late never a_finish (λ p. stmts.Finish p.0 p.1.0) d spec.finish_statement
+pub finish_rule : {live : Type 0} {d : ℕ} → Rule live never a_finish (λ p. stmts.Finish p.0 p.1.0) d spec.finish_statement
 unfolding spec.finish_statement
 finish_rule =
     keyword_rule classes.Finish (λ k p. stmts.Finish k p.0) (λ k s. and_then (optional (is classes.OpenParen) spec.status s) (λ o s. _)) refl
@@ -152,7 +152,7 @@ format_of t es = record { text = t; actuals = es }
 format_tells : (t : Text) (es : List Expr) → format_told (format_of t es) ≡ text_told t & (some_more_exprs never).told es
 format_tells t es = ap (λ a. text_told t & a) (behind_are (word_of classes.Comma) an_expr es)
 
-format_rule : {live : Type 0} {late : Word → Bool} (d : ℕ) → Rule live late never a_format (λ x. x) d (spec.format d)
+format_rule : {live : Type 0} (d : ℕ) → Rule live never a_format (λ x. x) d (spec.format d)
 unfolding spec.format
 format_rule d =
     told_as a_format (λ (p : Text × List Expr). format_of p.0 p.1) (λ x. x) (λ p. format_tells p.0 p.1) (λ p t. refl) (λ f. ((f.text, f.actuals), refl))
@@ -175,7 +175,7 @@ format_end : (o : Option Format) → a_format_or_none.grabs o (Some (word_of cla
 format_end None = or_both _ _ (word_is_not classes.Text classes.CloseParen refl refl) refl
 format_end (Some f) = more_stop never classes.CloseParen refl refl refl refl f.actuals
 
-shown_rule : {live : Type 0} {late : Word → Bool} (d k : ℕ) (w : ShowKind) → Rule live late never some_shown (λ p. stmts.ShowActuals k w p.0 p.1.0) d (spec.shown_actuals d k w)
+shown_rule : {live : Type 0} (d k : ℕ) (w : ShowKind) → Rule live never some_shown (λ p. stmts.ShowActuals k w p.0 p.1.0) d (spec.shown_actuals d k w)
 unfolding spec.shown_actuals
 shown_rule d k w =
     keyword_rule classes.OpenParen (λ o p. stmts.ShowActuals k w o p.0) (λ o s. and_then (optional (is classes.Text) (spec.format d) s) (λ f s. _)) refl
@@ -191,14 +191,14 @@ a_show_tail = sum some_shown a_semicolon
 abbrev pub shown_of : ℕ → ShowKind → ShowTail → Stmt
 shown_of k w = either (λ p. stmts.ShowActuals k w p.0 p.1.0) (λ _. stmts.Show k w)
 
-alone_rule : {live : Type 0} {late : Word → Bool} {d : ℕ} (k : ℕ) (w : ShowKind) → Rule live late never a_semicolon (λ _. stmts.Show k w) d (spec.shown_alone k w)
+alone_rule : {live : Type 0} {d : ℕ} (k : ℕ) (w : ShowKind) → Rule live never a_semicolon (λ _. stmts.Show k w) d (spec.shown_alone k w)
 unfolding spec.shown_alone
 alone_rule k w = ended_rule (stmts.Show k w) refl
 
 semicolon_off : (c : Class) → is c (Some (word_of classes.Semicolon)) ≡ false → Off (is c) a_semicolon
 semicolon_off c other n x r h g = other
 
-show_tail_rule : {live : Type 0} {late : Word → Bool} (d k : ℕ) (w : ShowKind) → Rule live late never a_show_tail (shown_of k w) d (spec.show_tail d k w)
+show_tail_rule : {live : Type 0} (d k : ℕ) (w : ShowKind) → Rule live never a_show_tail (shown_of k w) d (spec.show_tail d k w)
 unfolding spec.show_tail
 show_tail_rule d k w =
     choice (is classes.OpenParen) (keyword_front classes.OpenParen in_shown refl) (semicolon_off classes.OpenParen (word_is_not classes.OpenParen classes.Semicolon refl refl)) (shown_rule d k w) (alone_rule k w)
@@ -206,7 +206,7 @@ show_tail_rule d k w =
 abbrev pub a_show : Kind Word (ℕ × (ShowKind × ShowTail))
 a_show = pair (place never) (λ _. pair (plain show_word) (λ _. a_show_tail))
 
-pub show_rule : {live : Type 0} {late : Word → Bool} (d : ℕ) → Rule live late never a_show (λ p. shown_of p.0 p.1.0 p.1.1) d (spec.show d)
+pub show_rule : {live : Type 0} (d : ℕ) → Rule live never a_show (λ p. shown_of p.0 p.1.0 p.1.1) d (spec.show d)
 unfolding spec.show
 show_rule d = numbered (λ k p. shown_of k p.0 p.1) (λ k s. and_then (token (λ t. show_of (class_at t)) s) (λ w s. spec.show_tail d k w s))
     (λ k. seq (λ w. w) (shown_of k) (λ w. spec.show_tail d k w) (plainly (λ t. show_of (class_at t)) show_word show_reader (λ w. refl) shows.Display) (λ w. show_tail_rule d k w))
@@ -222,7 +222,7 @@ in_void = behind (word_of classes.Tick) (behind (word_of classes.OpenParen) (pai
 abbrev pub a_void : Kind Word (ℕ × (Call × Unit {0}))
 a_void = keyword classes.Void in_void
 
-pub void_rule : {live : Type 0} {late : Word → Bool} (d : ℕ) → Rule live late never a_void (λ p. stmts.Void p.0 p.1.0) d (spec.void_by d)
+pub void_rule : {live : Type 0} (d : ℕ) → Rule live never a_void (λ p. stmts.Void p.0 p.1.0) d (spec.void_by d)
 unfolding spec.void_by
 void_rule d =
     keyword_rule classes.Void (λ k p. stmts.Void k p.0) (λ k s. and_then (expect (is classes.Tick) s) (λ _ s. _)) refl

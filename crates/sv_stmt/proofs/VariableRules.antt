@@ -43,7 +43,7 @@ initializer_of k i = record { token = k; value = i }
 initializer_starts : Starts (is classes.Assign) an_initializer
 initializer_starts n x r h = (knows classes.Assign refl).yes
 
-initializer_rule : {live : Type 0} {late : Word → Bool} (d : ℕ) → Rule live late never an_initializer (λ x. x) d (spec.initializer d)
+initializer_rule : {live : Type 0} (d : ℕ) → Rule live never an_initializer (λ x. x) d (spec.initializer d)
 unfolding spec.initializer
 initializer_rule d =
     told_as an_initializer (λ (p : ℕ × Init). initializer_of p.0 p.1) (λ x. x) (λ p. refl) (λ p t. refl) (λ z. ((z.token, z.value), refl))
@@ -64,7 +64,7 @@ declarator_of n ds i = record { name = n; dimensions = ds; initializer = i }
 dimensions_free : (c : Class) → sameb the_type classes.OpenBracket c ≡ false → (ds : List Dimension) → Apart (is c) (dimensions_grab ds)
 dimensions_free c other ds = list_apart (is c) begins_dimension never a_dimension (apart_of c classes.OpenBracket other) (λ t e. refl) (λ x t e. refl) ds
 
-pub declarator_rule : {live : Type 0} {late : Word → Bool} {before : Option Word → Bool} (d : ℕ) → Apart (is classes.Name) before → Rule live late before a_declarator (λ x. x) d (spec.declarator d)
+pub declarator_rule : {live : Type 0} {before : Option Word → Bool} (d : ℕ) → Apart (is classes.Name) before → Rule live before a_declarator (λ x. x) d (spec.declarator d)
 unfolding spec.declarator
 declarator_rule d apart =
     told_as a_declarator (λ (p : Name × (List Dimension × Option Initializer)). declarator_of p.0 p.1.0 p.1.1) (λ x. x) (λ p. refl) (λ p t. refl) (λ z. ((z.name, (z.dimensions, z.initializer)), refl))
@@ -83,7 +83,7 @@ declarator_stops c fixed stop other assign x =
 abbrev some_declarators : Kind Word (List Declarator)
 some_declarators = commas (is classes.Comma) (word_of classes.Comma) a_declarator
 
-declarators_rule : {live : Type 0} {late : Word → Bool} {before : Option Word → Bool} (d : ℕ) → Apart (is classes.Name) before → Rule live late before some_declarators (λ xs. xs) d (spec.declarators d)
+declarators_rule : {live : Type 0} {before : Option Word → Bool} (d : ℕ) → Apart (is classes.Name) before → Rule live before some_declarators (λ xs. xs) d (spec.declarators d)
 unfolding is_class
 declarators_rule d apart =
     separate (is classes.Comma) (word_of classes.Comma) (knows classes.Comma refl) refl (λ x. at_word classes.Comma refl (a_declarator.grabs x) (declarator_stops classes.Comma refl refl refl refl x))
@@ -103,7 +103,7 @@ variables_of t ds = record { kind = t; declarators = ds }
 pub type_name : (t : DataType) → Apart (is classes.Name) (a_type.grabs t)
 type_name t u e = type_free t u (apart_by classes.Name (λ c. is_there (signing_of c)) refl u e) (apart_of classes.Name classes.OpenBracket refl u e)
 
-variables_rule_never : {live : Type 0} {late : Word → Bool} (d : ℕ) → Rule live late never a_variables (λ x. x) d (spec.variables d)
+variables_rule_never : {live : Type 0} (d : ℕ) → Rule live never a_variables (λ x. x) d (spec.variables d)
 unfolding spec.variables
 variables_rule_never d =
     told_as a_variables (λ (p : DataType × (List Declarator × Unit {0})). variables_of p.0 p.1.0) (λ x. x) (λ p. refl) (λ p t. refl) (λ z. ((z.kind, (z.declarators, tt)), refl))
@@ -114,7 +114,7 @@ variables_rule_never d =
 pub variables_starts : Starts begins_data_type a_variables
 variables_starts n z r h = pair_starts begins_data_type a_type (λ _. pair some_declarators (λ _. one (word_of classes.Semicolon))) type_starts n (z.kind, (z.declarators, tt)) r h
 
-pub variables_rule : {live : Type 0} {late : Word → Bool} {before : Option Word → Bool} (d : ℕ) → Apart begins_data_type before → Rule live late before a_variables (λ x. x) d (spec.variables d)
+pub variables_rule : {live : Type 0} {before : Option Word → Bool} (d : ℕ) → Apart begins_data_type before → Rule live before a_variables (λ x. x) d (spec.variables d)
 variables_rule {before = before} d apart = put_apart begins_data_type before variables_starts apart (variables_rule_never d)
 
 -- ---- variables*
@@ -127,7 +127,7 @@ variables_repeat = record { starts = variables_starts; next = λ x t e. refl; at
 abbrev pub some_variables : (Option Word → Bool) → Kind Word (List Variables)
 some_variables prior = list begins_data_type a_variables prior
 
-pub declarations_rule : {live : Type 0} {late : Word → Bool} (prior : Option Word → Bool) (d : ℕ) → Apart begins_data_type prior → Rule live late prior (some_variables prior) (λ xs. xs) d (spec.declarations d)
+pub declarations_rule : {live : Type 0} (prior : Option Word → Bool) (d : ℕ) → Apart begins_data_type prior → Rule live prior (some_variables prior) (λ xs. xs) d (spec.declarations d)
 declarations_rule prior d apart = many begins_data_type prior variables_repeat apart [] (variables_rule_never d)
 
 -- what declarations go on with

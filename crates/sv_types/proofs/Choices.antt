@@ -74,10 +74,10 @@ module _ {T X Y : Type 0} (is : Option T → Bool) (J : Kind T X) (K : Kind T Y)
   right_only t e n (inl x) r h g same = true_not_false (is t) (ap is (sym same) ∙ starts n x r h) e
   right_only t e n (inr y) r h g same = (y, h, refl)
 
-  choice_by : {Z : Type 0} (late : T → Bool) (make : X ⊎ Y → Z) (d : ℕ) (s : State T) (p q : Parser T Z) (b : Bool) → is (first s.rest) ≡ b
-      → (b ≡ true → Exact late J (λ x. make (inl x)) d s (p s)) → (b ≡ false → Exact late K (λ y. make (inr y)) d s (q s)) → Exact late (sum J K) make d s (if b then p s else q s)
-  choice_by late make d s p q true e j k = formed J (sum J K) inl left_form late make d s (p s) (left_only _ e) (j refl)
-  choice_by late make d s p q false e j k = formed K (sum J K) inr right_form late make d s (q s) (right_only _ e) (k refl)
+  choice_by : {Z : Type 0} (make : X ⊎ Y → Z) (d : ℕ) (s : State T) (p q : Parser T Z) (b : Bool) → is (first s.rest) ≡ b
+      → (b ≡ true → Exact J (λ x. make (inl x)) d s (p s)) → (b ≡ false → Exact K (λ y. make (inr y)) d s (q s)) → Exact (sum J K) make d s (if b then p s else q s)
+  choice_by make d s p q true e j k = formed J (sum J K) inl left_form make d s (p s) (left_only _ e) (j refl)
+  choice_by make d s p q false e j k = formed K (sum J K) inr right_form make d s (q s) (right_only _ e) (k refl)
 
   sum_keeps : (before : Option T → Bool) → ((n : ℕ) (x : X) (r : List T) → Is J n x → J.grabs x (first r) ≡ false → before (first (words J x ++ r)) ≡ false)
       → ((n : ℕ) (y : Y) (r : List T) → Is K n y → K.grabs y (first r) ≡ false → before (first (words K y ++ r)) ≡ false)
@@ -86,11 +86,11 @@ module _ {T X Y : Type 0} (is : Option T → Bool) (J : Kind T X) (K : Kind T Y)
   sum_keeps before j k n (inr y) r h g = k n y r h g
 
   -- what passes the test begins the one, and what doesn't the other
-  pub chosen : {Z : Type 0} {live : Type 0} {late : T → Bool} {before : Option T → Bool} {d : ℕ} {p q : Parser T Z} (make : X ⊎ Y → Z)
-      → Rule live late before J (λ x. make (inl x)) d p → Rule live late before K (λ y. make (inr y)) d q
-      → Rule live late before (sum J K) make d (λ s. if is (first s.rest) then p s else q s)
-  chosen {late = late} {before = before} {d = d} {p = p} {q = q} make j k = record {
-    exact = λ l s b. choice_by late make d s p q (is (first s.rest)) refl (λ _. j.exact l s b) (λ _. k.exact l s b);
+  pub chosen : {Z : Type 0} {live : Type 0} {before : Option T → Bool} {d : ℕ} {p q : Parser T Z} (make : X ⊎ Y → Z)
+      → Rule live before J (λ x. make (inl x)) d p → Rule live before K (λ y. make (inr y)) d q
+      → Rule live before (sum J K) make d (λ s. if is (first s.rest) then p s else q s)
+  chosen {before = before} {d = d} {p = p} {q = q} make j k = record {
+    exact = λ l s b. choice_by make d s p q (is (first s.rest)) refl (λ _. j.exact l s b) (λ _. k.exact l s b);
     closes = λ n. form_viable J (sum J K) inl left_form d n [] (j.closes n);
     keeps = sum_keeps before j.keeps k.keeps;
   }

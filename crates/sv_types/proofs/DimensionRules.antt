@@ -38,7 +38,7 @@ abbrev ended : ℕ → Bound → Tail → Dimension
 ended k a (inl p) = sized.Range k a p.0
 ended k a (inr u) = sized.Size k a.number
 
-range_end_rule : {live : Type 0} {late : Word → Bool} {d : ℕ} (k : ℕ) (a : Bound) → Rule live late never after_left (λ p. sized.Range k a p.0) d (spec.range_end k a)
+range_end_rule : {live : Type 0} {d : ℕ} (k : ℕ) (a : Bound) → Rule live never after_left (λ p. sized.Range k a p.0) d (spec.range_end k a)
 unfolding spec.range_end
 range_end_rule k a = token_then (is classes.Colon) (word_of classes.Colon) (knows classes.Colon refl) refl
     (seq (λ b. b) (λ b _. sized.Range k a b) _ bound_alone
@@ -47,7 +47,7 @@ range_end_rule k a = token_then (is classes.Colon) (word_of classes.Colon) (know
 size_form : Form a_close (size_tail false) (λ u. u)
 size_form = record { tells = λ n u h. refl; levels_are = λ n u h. refl; is = λ n u h. (refl, tt); grabs = λ n u t h. refl }
 
-size_end_rule : {live : Type 0} {late : Word → Bool} {d : ℕ} (k : ℕ) (a : Bound) → Rule live late never (size_tail false) (λ _. sized.Size k a.number) d (spec.size_end k a)
+size_end_rule : {live : Type 0} {d : ℕ} (k : ℕ) (a : Bound) → Rule live never (size_tail false) (λ _. sized.Size k a.number) d (spec.size_end k a)
 unfolding spec.size_end
 size_end_rule k a = shaped (size_tail false) (λ u. u) (λ _. sized.Size k a.number) size_form (λ n u h. (tt, tt, refl))
     (last (is classes.CloseBracket) (word_of classes.CloseBracket) (sized.Size k a.number) (knows classes.CloseBracket refl) refl)
@@ -65,8 +65,8 @@ signed_all : (n : ℕ) (z : Tail) → Is (tail true) n z → (x : Bound × Unit 
 signed_all n (inl x) h = (x, h, refl)
 signed_all n (inr u) h = let bad : false ≡ true = h.0 in absurd (cc)
 
-tail_rule : {live : Type 0} {late : Word → Bool} {d : ℕ} (negative : Bool) (k : ℕ) (a : Bound)
-    → Rule live late never (tail negative) (ended k a) d (λ s. if (negative || is classes.Colon (first s.rest)) then spec.range_end k a s else spec.size_end k a s)
+tail_rule : {live : Type 0} {d : ℕ} (negative : Bool) (k : ℕ) (a : Bound)
+    → Rule live never (tail negative) (ended k a) d (λ s. if (negative || is classes.Colon (first s.rest)) then spec.range_end k a s else spec.size_end k a s)
 tail_rule true k a = shaped (tail true) inl (ended k a) signed_form signed_all (range_end_rule k a)
 tail_rule false k a = chosen (is classes.Colon) after_left (size_tail false) after_left_starts
     (misses_by (is classes.CloseBracket) (is classes.Colon) (size_tail false) size_tail_starts (apart_of classes.CloseBracket classes.Colon refl)) (ended k a) (range_end_rule k a) (size_end_rule k a)
@@ -80,7 +80,7 @@ inner_dimension = pair a_bound (λ a. tail a.negative)
 abbrev pub dimension_of : ℕ → Bound × Tail → Dimension
 dimension_of k p = ended k p.0 p.1
 
-pub dimension_from_rule : {live : Type 0} {late : Word → Bool} {d : ℕ} (k : ℕ) → Rule live late never inner_dimension (dimension_of k) d (spec.dimension_from k)
+pub dimension_from_rule : {live : Type 0} {d : ℕ} (k : ℕ) → Rule live never inner_dimension (dimension_of k) d (spec.dimension_from k)
 unfolding spec.dimension_from spec.dimension_end
 dimension_from_rule k = seq (λ a. a) (ended k) (spec.dimension_end k) bound_alone (λ a. tail_rule a.negative k a)
 
@@ -137,7 +137,7 @@ pub dimension_starts : Starts begins_dimension a_dimension
 dimension_starts n (sized.Range k a b) r h = (knows classes.OpenBracket refl).yes
 dimension_starts n (sized.Size k m) r h = (knows classes.OpenBracket refl).yes
 
-pub dimension_rule : {live : Type 0} {late : Word → Bool} {d : ℕ} → Rule live late never a_dimension (λ x. x) d spec.dimension
+pub dimension_rule : {live : Type 0} {d : ℕ} → Rule live never a_dimension (λ x. x) d spec.dimension
 unfolding spec.dimension
 dimension_rule = shaped a_dimension made (λ x. x) dimension_form dimension_all
     (numbered dimension_of (λ k s. and_then (expect (is classes.OpenBracket) s) (λ _. spec.dimension_from k))
@@ -148,6 +148,6 @@ unfolding is_class
 dimensions_repeat = record { starts = dimension_starts; next = λ x t e. refl; at_end = refl }
 
 -- dim*, behind something that no bracket goes on with
-pub dimensions_rule : {live : Type 0} {late : Word → Bool} {d : ℕ} (before : Option Word → Bool) → Apart begins_dimension before
-    → Rule live late before (list begins_dimension a_dimension before) (λ xs. xs) d spec.dimensions
+pub dimensions_rule : {live : Type 0} {d : ℕ} (before : Option Word → Bool) → Apart begins_dimension before
+    → Rule live before (list begins_dimension a_dimension before) (λ xs. xs) d spec.dimensions
 dimensions_rule before apart = many begins_dimension before dimensions_repeat apart [] dimension_rule

@@ -91,12 +91,12 @@ brackets_starts : Starts begins_dimension a_brackets
 brackets_starts n (Empty k) r h = (knows classes.OpenBracket refl).yes
 brackets_starts n (Bounds x) r h = (knows classes.OpenBracket refl).yes
 
-bracketed_from_rule : {live : Type 0} {late : Word → Bool} {d : ℕ} (k : ℕ) → Rule live late never (sum a_close bounds) (brackets_of k) d (spec.bracketed_from k)
+bracketed_from_rule : {live : Type 0} {d : ℕ} (k : ℕ) → Rule live never (sum a_close bounds) (brackets_of k) d (spec.bracketed_from k)
 unfolding spec.bracketed_from
 bracketed_from_rule k = chosen (is classes.CloseBracket) a_close bounds close_starts bounds_miss_close (brackets_of k)
     (last (is classes.CloseBracket) (word_of classes.CloseBracket) (Empty k) (knows classes.CloseBracket refl) refl) (mapped Bounds (range_from_rule k))
 
-bracketed_rule : {live : Type 0} {late : Word → Bool} {d : ℕ} → Rule live late never a_brackets (λ x. x) d spec.bracketed
+bracketed_rule : {live : Type 0} {d : ℕ} → Rule live never a_brackets (λ x. x) d spec.bracketed
 unfolding spec.bracketed
 bracketed_rule = told_as a_brackets (λ (x : ℕ × Inside). brackets_of x.0 x.1) (λ x. x) (λ x. told_brackets x.0 x.1) (λ x t. grabs_brackets x.1 t) all_brackets
     (numbered brackets_of (λ k s. and_then (expect (is classes.OpenBracket) s) (λ _. spec.bracketed_from k))
@@ -114,7 +114,7 @@ import_vectors = pair (place never) (λ _. pair (plain vector_word) (λ _. pair 
 vector_starts : Starts begins_vector import_vectors
 vector_starts n x r h = value_starts (λ t. vector_of (class_at t)) vector_word vector_reader x.1.0
 
-import_vector_rule : {live : Type 0} {late : Word → Bool} {d : ℕ} → Rule live late never import_vectors (λ p. import_type_of p.0 p.1.0 p.1.1.0 p.1.1.1) d spec.import_vector
+import_vector_rule : {live : Type 0} {d : ℕ} → Rule live never import_vectors (λ p. import_type_of p.0 p.1.0 p.1.1.0 p.1.1.1) d spec.import_vector
 unfolding spec.import_vector
 import_vector_rule = numbered (λ k p. import_type_of k p.0 p.1.0 p.1.1) _
     (λ k. seq (λ v. v) (λ v p. import_type_of k v p.0 p.1) _ (plainly (λ t. vector_of (class_at t)) vector_word vector_reader (λ v. refl) Bit)
@@ -164,12 +164,12 @@ pub import_type_starts : Starts begins_data_type an_import_type
 import_type_starts n (import_types.Data z) r h = type_starts n z r h
 import_type_starts n (import_types.Unsized k v s o) r h = vector_begins v
 
-import_rule_never : {live : Type 0} {late : Word → Bool} {d : ℕ} → Rule live late never an_import_type (λ x. x) d spec.import_type
+import_rule_never : {live : Type 0} {d : ℕ} → Rule live never an_import_type (λ x. x) d spec.import_type
 unfolding spec.import_type
 import_rule_never = told_as an_import_type made_type (λ x. x) told_import grabs_import all_imports
     (chosen begins_vector import_vectors plain_types vector_starts plain_miss_vector made_type import_vector_rule (mapped import_types.Data plain_rule))
 
-pub import_type_rule : {live : Type 0} {late : Word → Bool} {before : Option Word → Bool} {d : ℕ} → Apart begins_data_type before → Rule live late before an_import_type (λ x. x) d spec.import_type
+pub import_type_rule : {live : Type 0} {before : Option Word → Bool} {d : ℕ} → Apart begins_data_type before → Rule live before an_import_type (λ x. x) d spec.import_type
 import_type_rule {before = before} apart = put_apart begins_data_type before import_type_starts apart import_rule_never
 
 -- a type of an import goes on with signings and brackets alone
@@ -222,7 +222,7 @@ held_all : (n : ℕ) (z : ImportDimension) → Is an_import_dimension n z → (x
 held_all n (import_sized.Unsized k) h = ((k, inl tt), h, refl)
 held_all n (import_sized.Sized z) h = let o = dimension_all n z h in ((o.0.0, inr o.0.1), o.1, ap import_sized.Sized o.2)
 
-import_dimension_from_rule : {live : Type 0} {late : Word → Bool} {d : ℕ} (k : ℕ) → Rule live late never (sum a_close inner_dimension) (made_by k) d (spec.import_dimension_from k)
+import_dimension_from_rule : {live : Type 0} {d : ℕ} (k : ℕ) → Rule live never (sum a_close inner_dimension) (made_by k) d (spec.import_dimension_from k)
 unfolding spec.import_dimension_from
 import_dimension_from_rule k = chosen (is classes.CloseBracket) a_close inner_dimension close_starts inner_misses_close (made_by k)
     (last (is classes.CloseBracket) (word_of classes.CloseBracket) (import_sized.Unsized k) (knows classes.CloseBracket refl) refl) (mapped import_sized.Sized (dimension_from_rule k))
@@ -231,7 +231,7 @@ pub import_dimension_starts : Starts begins_dimension an_import_dimension
 import_dimension_starts n (import_sized.Unsized k) r h = (knows classes.OpenBracket refl).yes
 import_dimension_starts n (import_sized.Sized z) r h = dimension_starts n z r h
 
-pub import_dimension_rule : {live : Type 0} {late : Word → Bool} {d : ℕ} → Rule live late never an_import_dimension (λ x. x) d spec.import_dimension
+pub import_dimension_rule : {live : Type 0} {d : ℕ} → Rule live never an_import_dimension (λ x. x) d spec.import_dimension
 unfolding spec.import_dimension
 import_dimension_rule = shaped an_import_dimension made (λ x. x) held_form held_all
     (numbered made_by (λ k s. and_then (expect (is classes.OpenBracket) s) (λ _. spec.import_dimension_from k))
@@ -242,6 +242,6 @@ unfolding is_class
 import_dimensions_repeat = record { starts = import_dimension_starts; next = λ x t e. refl; at_end = refl }
 
 -- idim*, behind something that no bracket goes on with
-pub import_dimensions_rule : {live : Type 0} {late : Word → Bool} {d : ℕ} (before : Option Word → Bool) → Apart begins_dimension before
-    → Rule live late before (list begins_dimension an_import_dimension before) (λ xs. xs) d spec.import_dimensions
+pub import_dimensions_rule : {live : Type 0} {d : ℕ} (before : Option Word → Bool) → Apart begins_dimension before
+    → Rule live before (list begins_dimension an_import_dimension before) (λ xs. xs) d spec.import_dimensions
 import_dimensions_rule before apart = many begins_dimension before import_dimensions_repeat apart [] import_dimension_rule

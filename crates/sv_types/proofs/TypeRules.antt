@@ -41,13 +41,13 @@ make_sign k s = record { token = k; signing = s }
 pub sign_starts : Starts begins_sign a_sign
 sign_starts n x r h = value_starts (λ t. signing_of (class_at t)) signing_word signing_reader x.signing
 
-sign_rule_never : {live : Type 0} {late : Word → Bool} {d : ℕ} → Rule live late never a_sign (λ x. x) d spec.sign
+sign_rule_never : {live : Type 0} {d : ℕ} → Rule live never a_sign (λ x. x) d spec.sign
 unfolding spec.sign
 sign_rule_never = told_as a_sign (λ (p : ℕ × Signing). make_sign p.0 p.1) (λ x. x) (λ p. refl) (λ p t. refl) (λ s. ((s.token, s.signing), refl))
     (numbered make_sign (λ k s. and_then (spec.signing s) (λ g s. Ok (make_sign k g, s)))
     (λ k. mapped (make_sign k) (plainly (λ t. signing_of (class_at t)) signing_word signing_reader (λ g. refl) Signed)))
 
-pub sign_rule : {live : Type 0} {late : Word → Bool} {before : Option Word → Bool} {d : ℕ} → Apart begins_sign before → Rule live late before a_sign (λ x. x) d spec.sign
+pub sign_rule : {live : Type 0} {before : Option Word → Bool} {d : ℕ} → Apart begins_sign before → Rule live before a_sign (λ x. x) d spec.sign
 sign_rule {before = before} apart = put_apart begins_sign before sign_starts apart sign_rule_never
 
 -- what goes on with a type that has this signing
@@ -58,7 +58,7 @@ pub sign_free : (s : Option Sign) (t : Option Word) → begins_sign t ≡ false 
 sign_free None t e = or_both (begins_sign t) false e refl
 sign_free (Some s) t e = refl
 
-pub optional_sign_rule : {live : Type 0} {late : Word → Bool} {d : ℕ} → Rule live late never (option begins_sign a_sign never) (λ o. o) d spec.optional_sign
+pub optional_sign_rule : {live : Type 0} {d : ℕ} → Rule live never (option begins_sign a_sign never) (λ o. o) d spec.optional_sign
 optional_sign_rule = perhaps begins_sign never sign_starts (λ t e. refl) sign_rule_never
 
 -- ---- ranges
@@ -78,10 +78,10 @@ bounds = pair a_bound (λ _. after_left)
 abbrev pub make_range : ℕ → Bound → Bound → Range
 make_range k a b = record { token = k; left = a; right = b }
 
-pub bound_alone : {live : Type 0} {late : Word → Bool} {d : ℕ} → Rule live late never a_bound (λ x. x) d bound
+pub bound_alone : {live : Type 0} {d : ℕ} → Rule live never a_bound (λ x. x) d bound
 bound_alone = bound_rule (λ t e. refl)
 
-pub range_from_rule : {live : Type 0} {late : Word → Bool} {d : ℕ} (k : ℕ) → Rule live late never bounds (λ p. make_range k p.0 p.1.0) d (spec.range_from k)
+pub range_from_rule : {live : Type 0} {d : ℕ} (k : ℕ) → Rule live never bounds (λ p. make_range k p.0 p.1.0) d (spec.range_from k)
 unfolding spec.range_from
 range_from_rule k = seq (λ a. a) (λ a p. make_range k a p.0) _ bound_alone
     (λ a. token_then (is classes.Colon) (word_of classes.Colon) (knows classes.Colon refl) refl
@@ -94,14 +94,14 @@ a_range = record { told = range_told; grabs = λ _ _. false }
 pub range_starts : Starts begins_dimension a_range
 range_starts n x r h = (knows classes.OpenBracket refl).yes
 
-range_rule_never : {live : Type 0} {late : Word → Bool} {d : ℕ} → Rule live late never a_range (λ x. x) d spec.range
+range_rule_never : {live : Type 0} {d : ℕ} → Rule live never a_range (λ x. x) d spec.range
 unfolding spec.range
 range_rule_never = told_as a_range (λ (p : ℕ × (Bound × (Bound × Unit {0}))). make_range p.0 p.1.0 p.1.1.0) (λ x. x) (λ p. refl) (λ p t. refl)
     (λ r. ((r.token, (r.left, (r.right, tt))), refl))
     (numbered (λ k p. make_range k p.0 p.1.0) (λ k s. and_then (expect (is classes.OpenBracket) s) (λ _. spec.range_from k))
     (λ k. token_then (is classes.OpenBracket) (word_of classes.OpenBracket) (knows classes.OpenBracket refl) refl (range_from_rule k)))
 
-pub range_rule : {live : Type 0} {late : Word → Bool} {before : Option Word → Bool} {d : ℕ} → Apart begins_dimension before → Rule live late before a_range (λ x. x) d spec.range
+pub range_rule : {live : Type 0} {before : Option Word → Bool} {d : ℕ} → Apart begins_dimension before → Rule live before a_range (λ x. x) d spec.range
 range_rule {before = before} apart = put_apart begins_dimension before range_starts apart range_rule_never
 
 -- ---- vectors
@@ -117,7 +117,7 @@ a_vector = pair (place never) (λ _. pair (plain vector_word) (λ _. pair (optio
 vector_starts : Starts begins_vector a_vector
 vector_starts n x r h = value_starts (λ t. vector_of (class_at t)) vector_word vector_reader x.1.0
 
-vector_rule : {live : Type 0} {late : Word → Bool} {d : ℕ} → Rule live late never a_vector (λ p. types.Vector p.0 p.1.0 p.1.1.0 p.1.1.1) d spec.vector
+vector_rule : {live : Type 0} {d : ℕ} → Rule live never a_vector (λ p. types.Vector p.0 p.1.0 p.1.1.0 p.1.1.1) d spec.vector
 unfolding spec.vector
 vector_rule = numbered (λ k p. types.Vector k p.0 p.1.0 p.1.1) _
     (λ k. seq (λ v. v) (λ v p. types.Vector k v p.0 p.1) _ (plainly (λ t. vector_of (class_at t)) vector_word vector_reader (λ v. refl) Bit)
@@ -133,7 +133,7 @@ a_whole = pair (place never) (λ _. pair (plain whole_word) (λ _. option begins
 whole_starts : Starts begins_whole a_whole
 whole_starts n x r h = value_starts (λ t. whole_of (class_at t)) whole_word whole_reader x.1.0
 
-whole_rule : {live : Type 0} {late : Word → Bool} {d : ℕ} → Rule live late never a_whole (λ p. types.Whole p.0 p.1.0 p.1.1) d spec.whole
+whole_rule : {live : Type 0} {d : ℕ} → Rule live never a_whole (λ p. types.Whole p.0 p.1.0 p.1.1) d spec.whole
 unfolding spec.whole
 whole_rule = numbered (λ k p. types.Whole k p.0 p.1) _
     (λ k. seq (λ w. w) (λ w s. types.Whole k w s) _ (plainly (λ t. whole_of (class_at t)) whole_word whole_reader (λ w. refl) Int)
@@ -146,7 +146,7 @@ lone c = pair (place never) (λ _. one (word_of c))
 pub lone_starts : (c : Class) → is_fixed c ≡ true → Starts (is c) (lone c)
 lone_starts c fixed n x r h = (knows c fixed).yes
 
-pub lone_rule : {Z : Type 0} {live : Type 0} {late : Word → Bool} {d : ℕ} (c : Class) → is_fixed c ≡ true → (make : ℕ → Z) → Rule live late never (lone c) (λ p. make p.0) d (λ s. and_then (expect (is c) s) (λ _ s2. Ok (make s.place, s2)))
+pub lone_rule : {Z : Type 0} {live : Type 0} {d : ℕ} (c : Class) → is_fixed c ≡ true → (make : ℕ → Z) → Rule live never (lone c) (λ p. make p.0) d (λ s. and_then (expect (is c) s) (λ _ s2. Ok (make s.place, s2)))
 lone_rule c fixed make = numbered (λ k _. make k) (λ k s. and_then (expect (is c) s) (λ _ s. Ok (make k, s))) (λ k. last (is c) (word_of c) (make k) (knows c fixed) refl)
 
 abbrev pub Plain : Type 0
@@ -177,7 +177,7 @@ words_miss f a b c =
     sum_misses test (lone classes.Integer) words_alone (lone_misses classes.Integer refl test (apart_by classes.Integer f a))
     (sum_misses test (lone classes.String) (lone classes.Chandle) (lone_misses classes.String refl test (apart_by classes.String f b)) (lone_misses classes.Chandle refl test (apart_by classes.Chandle f c)))
 
-pub plain_rule : {live : Type 0} {late : Word → Bool} {d : ℕ} → Rule live late never plain_types plain_of d spec.plain_type
+pub plain_rule : {live : Type 0} {d : ℕ} → Rule live never plain_types plain_of d spec.plain_type
 unfolding spec.plain_type spec.integer spec.string spec.chandle
 plain_rule =
     chosen begins_whole a_whole words_only whole_starts (words_miss (λ o. is_there (whole_of o)) refl refl refl) plain_of whole_rule
@@ -246,7 +246,7 @@ all_types (types.Integer k) = (inr (inr (inl (k, tt))), refl)
 all_types (types.String k) = (inr (inr (inr (inl (k, tt)))), refl)
 all_types (types.Chandle k) = (inr (inr (inr (inr (k, tt)))), refl)
 
-type_rule_never : {live : Type 0} {late : Word → Bool} {d : ℕ} → Rule live late never a_type (λ x. x) d spec.data_type
+type_rule_never : {live : Type 0} {d : ℕ} → Rule live never a_type (λ x. x) d spec.data_type
 unfolding spec.data_type
 type_rule_never = told_as a_type type_of (λ x. x) told_type grabs_type all_types
     (chosen begins_vector a_vector plain_types vector_starts plain_miss_vector type_of vector_rule plain_rule)
@@ -270,7 +270,7 @@ type_starts n (types.Integer k) rest h = refl
 type_starts n (types.String k) rest h = refl
 type_starts n (types.Chandle k) rest h = refl
 
-pub type_rule : {live : Type 0} {late : Word → Bool} {before : Option Word → Bool} {d : ℕ} → Apart begins_data_type before → Rule live late before a_type (λ x. x) d spec.data_type
+pub type_rule : {live : Type 0} {before : Option Word → Bool} {d : ℕ} → Apart begins_data_type before → Rule live before a_type (λ x. x) d spec.data_type
 type_rule {before = before} apart = put_apart begins_data_type before type_starts apart type_rule_never
 
 -- a type goes on with signings and brackets alone

@@ -7,4 +7,4 @@ pub returns-in-Ok : goal.returns-in-Ok
 returns-in-Ok c = record { answer = parsed 24 (words_of c.args.tokens.now) c.in-Ok.file c.whole.new.tokens (search rules) }
 
 pub returns-in-Err-TooDeep : goal.returns-in-Err-TooDeep
-returns-in-Err-TooDeep c = record { answer = too_deep 24 (words_of c.args.tokens.now) c.in-Err-TooDeep.token (search rules) }
+returns-in-Err-TooDeep c = record { answer = too_deep 24 (words_of c.args.tokens.now) c.opener.result c.in-Err-TooDeep.shows (search rules) c.opener.ensures }
