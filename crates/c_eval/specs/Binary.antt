@@ -3,7 +3,7 @@ use Rattle.std.specs.Prelude.{neg_ℤ, false, not, ◌&&◌, ◌||◌, Result, O
 use Rattle.c_memory.specs.declared.ccell.CCell.{CCell}
 use Rattle.c_memory.specs.declared.ccell.CCell.TheVariants.{Number, Pointer}
 use Rattle.c_memory.specs.Memory.{CMemory}
-use Rattle.c_check.specs.declared.ctype.CType.{CType}
+use Rattle.c_base.specs.declared.ctype.CType.{CType}
 use Rattle.c_eval.specs.declared.operator.CBinOp.{CBinOp}
 use Rattle.c_eval.specs.declared.operator.CBinOp.TheVariants.{Add, Sub, Equal, NotEqual, And, Or}
 use Rattle.c_eval.specs.declared.trap.OpTrap.{OpTrap}

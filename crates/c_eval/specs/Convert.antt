@@ -1,9 +1,9 @@
 -- Conversions.
 use Rattle.std.specs.Prelude.{None, if◌then◌else◌}
-use Rattle.c_check.specs.declared.base.CBase.{CBase}
-use Rattle.c_check.specs.declared.base.CBase.TheVariants as Bases
-use Rattle.c_check.specs.declared.ctype.CType.{CType}
-use Rattle.c_check.specs.Types.{is_number, is_pointer}
+use Rattle.c_base.specs.declared.base.CBase.{CBase}
+use Rattle.c_base.specs.declared.base.CBase.TheVariants as Bases
+use Rattle.c_base.specs.declared.ctype.CType.{CType}
+use Rattle.c_base.specs.Types.{is_number, is_pointer}
 use Rattle.c_memory.specs.declared.pointer.Pointer.TheVariants.{Null}
 use Rattle.c_memory.specs.declared.ccell.CCell.{CCell}
 use Rattle.c_memory.specs.declared.ccell.CCell.TheVariants.{Number, Pointer, Handle, Scope}

@@ -2,9 +2,9 @@
 use Rattle.std.specs.Prelude.{ℕ, ℤ, ◌+ℤ◌, ◌-ℤ◌, ◌*ℤ◌, not, ◌&&◌, ◌||◌, ◌==◌, if◌then◌else◌}
 use Rattle.std.specs.Prelude.{bit_and, bit_or, bit_xor, Result, Ok}
 use Rattle.std.specs.Ordering.{int_cmp}
-use Rattle.c_check.specs.declared.base.CBase.{CBase}
-use Rattle.c_check.specs.declared.base.CBase.TheVariants.{Int}
-use Rattle.c_check.specs.Base.{promoted, common}
+use Rattle.c_base.specs.declared.base.CBase.{CBase}
+use Rattle.c_base.specs.declared.base.CBase.TheVariants.{Int}
+use Rattle.c_base.specs.Base.{promoted, common}
 use Rattle.c_eval.specs.declared.operator.CBinOp.{CBinOp}
 use Rattle.c_eval.specs.declared.operator.CBinOp.TheVariants.{Mul, Div, Rem, Add, Sub, Shl, Shr}
 use Rattle.c_eval.specs.declared.operator.CBinOp.TheVariants.{BitAnd, BitXor, BitOr, And, Or}

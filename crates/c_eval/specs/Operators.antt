@@ -5,8 +5,8 @@ use Rattle.std.specs.Prelude.{if◌then◌else◌, Result, Ok, Err}
 use Rattle.std.specs.Int.{int_shr}
 use Rattle.std.specs.Ordering.{int_eq, is_lt, is_gt, is_eq}
 use Rattle.std.specs.declared.cmp.Ordering.{Ordering}
-use Rattle.c_check.specs.declared.base.CBase.{CBase}
-use Rattle.c_check.specs.Base.{width}
+use Rattle.c_base.specs.declared.base.CBase.{CBase}
+use Rattle.c_base.specs.Base.{width}
 use Rattle.c_eval.specs.declared.operator.CBinOp.{CBinOp}
 use Rattle.c_eval.specs.declared.operator.CBinOp.TheVariants.{Less, LessEqual, Greater}
 use Rattle.c_eval.specs.declared.operator.CBinOp.TheVariants.{GreaterEqual, Equal, NotEqual}

@@ -2,8 +2,8 @@
 use Rattle.std.specs.Prelude.{ℤ, pos, ◌+ℤ◌, ◌-ℤ◌, unsigned_abs, Option, Some, None}
 use Rattle.std.specs.Prelude.{Result, Ok, Err}
 use Rattle.std.specs.Ordering.{nat_cmp}
-use Rattle.c_check.specs.declared.base.CBase.TheVariants.{LongLong}
-use Rattle.c_check.specs.declared.ctype.CType.{CType}
+use Rattle.c_base.specs.declared.base.CBase.TheVariants.{LongLong}
+use Rattle.c_base.specs.declared.ctype.CType.{CType}
 use Rattle.c_memory.specs.declared.ccell.CCell.TheVariants as Cells
 use Rattle.c_memory.specs.declared.pointer.Pointer.{Pointer}
 use Rattle.c_memory.specs.declared.pointer.Pointer.TheVariants.{At}

@@ -1,7 +1,7 @@
 -- Unary operators.
 use Rattle.std.specs.Prelude.{ℕ, neg_ℤ, not, Result, Ok}
-use Rattle.c_check.specs.declared.base.CBase.{CBase}
-use Rattle.c_check.specs.Base.{promoted}
+use Rattle.c_base.specs.declared.base.CBase.{CBase}
+use Rattle.c_base.specs.Base.{promoted}
 use Rattle.c_eval.specs.declared.operator.CUnOp.{CUnOp}
 use Rattle.c_eval.specs.declared.operator.CUnOp.TheVariants.{Minus, Not, Complement}
 use Rattle.c_eval.specs.declared.trap.OpTrap.{OpTrap}

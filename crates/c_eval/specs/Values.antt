@@ -1,9 +1,9 @@
 -- Typed values: numbers, truth and equality.
 use Rattle.std.specs.Prelude.{ℕ, Bool, true, false, not, ◌&&◌, ◌==◌, if◌then◌else◌}
 use Rattle.std.specs.Prelude.{Option, Some, None, is_some, Result, Ok, Err}
-use Rattle.c_check.specs.declared.base.CBase.{CBase}
-use Rattle.c_check.specs.declared.base.CBase.TheVariants.{Int}
-use Rattle.c_check.specs.Types.{plain}
+use Rattle.c_base.specs.declared.base.CBase.{CBase}
+use Rattle.c_base.specs.declared.base.CBase.TheVariants.{Int}
+use Rattle.c_base.specs.Types.{plain}
 use Rattle.c_memory.specs.declared.pointer.Pointer.TheVariants.{Null, At}
 use Rattle.c_memory.specs.declared.pointer.Pointer as Pointers
 use Rattle.c_memory.specs.declared.ccell.CCell.{CCell}

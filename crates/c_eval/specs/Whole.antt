@@ -3,8 +3,8 @@ use Rattle.std.specs.Prelude.{◌≡◌, ℕ, ◌-◌, ◌^◌, ℤ, pos, neg_�
 use Rattle.std.specs.Prelude.{not, ◌&&◌, nat_le, int_le, int_lt, unsigned_abs, if◌then◌else◌}
 use Rattle.std.specs.Prelude.{Result, Ok, Err}
 use Rattle.std.specs.Int.{int_rem_euclid}
-use Rattle.c_check.specs.declared.base.CBase.{CBase}
-use Rattle.c_check.specs.Base.{width, is_signed}
+use Rattle.c_base.specs.declared.base.CBase.{CBase}
+use Rattle.c_base.specs.Base.{width, is_signed}
 use Rattle.c_eval.specs.declared.trap.OpTrap.{OpTrap}
 use Rattle.c_eval.specs.declared.trap.OpTrap.TheVariants.{SignedOverflow}
 

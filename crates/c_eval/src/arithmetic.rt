@@ -5,7 +5,7 @@ ghost use Rattle.c_eval.specs.Operators.{quotient, left_by, remainder};
 
 use crate::trap::OpTrap;
 use crate::whole::{bits_of, fitted, overflows, size};
-use c_check::CBase;
+use c_base::CBase;
 
 /// The sum, which 128 bits hold.
 fn plus(x: i128, y: i128) -> i128

@@ -3,7 +3,7 @@ ghost use Rattle.std.specs.Prelude.{◌≡◌};
 ghost use Rattle.c_eval.specs.Convert.{as_pointer, as_handle, as_scope, as_other, as_type};
 
 use crate::value::{CValue, bits_at, bits_in};
-use c_check::{CBase, CType};
+use c_base::{CBase, CType};
 use c_memory::{CCell, Pointer};
 
 /// The cell as a pointer: itself, or null for 0.

@@ -8,7 +8,7 @@ use crate::shift::{shifted_left, shifted_right};
 use crate::trap::OpTrap;
 use crate::value::{CValue, bits_at, truth, typed};
 use crate::whole::value_of;
-use c_check::CBase;
+use c_base::CBase;
 
 /// An operator that works at the common type, on two numbers of it by their bits.
 fn arithmetic(op: CBinOp, of: CBase, a: u64, b: u64) -> Result<u64, OpTrap>

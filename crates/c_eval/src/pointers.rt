@@ -7,7 +7,7 @@ use crate::operator::CBinOp;
 use crate::trap::OpTrap;
 use crate::value::{CValue, number, truth};
 use crate::whole::bits_of;
-use c_check::{CBase, CType};
+use c_base::{CBase, CType};
 use c_memory::{CCell, MemTrap, Memory, Pointer};
 use dpi_ports::Ledger;
 

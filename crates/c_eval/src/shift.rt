@@ -6,7 +6,7 @@ ghost use Rattle.c_eval.specs.Operators.{is_past, shifted_left, shifted_right};
 use crate::arithmetic::product;
 use crate::trap::OpTrap;
 use crate::whole::bits_of;
-use c_check::CBase;
+use c_base::CBase;
 
 /// Whether the count is negative, or not less than the width.
 fn is_past(of: CBase, count: i128) -> bool

@@ -3,7 +3,7 @@ use crate::{CBinOp, CUnOp, CValue, OpTrap, binary, convert, unary};
 use CBase::{
     Char, Int, LongLong, Short, UnsignedChar, UnsignedInt, UnsignedLongLong, UnsignedShort,
 };
-use c_check::{CBase, CType};
+use c_base::{CBase, CType};
 use c_memory::{CCell, CellType, MemTrap, Memory, Pointer};
 use dpi_ports::PlainLedger;
 use std::test::Fail;

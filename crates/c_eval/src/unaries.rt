@@ -8,7 +8,7 @@ use crate::operator::CUnOp;
 use crate::trap::OpTrap;
 use crate::value::{CValue, bits_at, bits_in, is_set, truth, typed};
 use crate::whole::{fitted, size, value_of};
-use c_check::CBase;
+use c_base::CBase;
 use c_memory::Memory;
 use dpi_ports::Ledger;
 

@@ -6,7 +6,7 @@ ghost use Rattle.c_eval.specs.Values.{same_scope};
 
 use crate::trap::OpTrap;
 use crate::whole::{bits_of, value_of};
-use c_check::{CBase, CType};
+use c_base::{CBase, CType};
 use c_memory::{CCell, Pointer};
 
 /// A value of C with its type. A whole number stands in its cell by its bits at the width of the

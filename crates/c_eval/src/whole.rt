@@ -4,7 +4,7 @@ ghost use Rattle.c_eval.specs.Whole.{size, half, value_of, bits_of, is_within, o
 ghost use Rattle.c_eval.specs.Whole.{fitted, IsOperand};
 
 use crate::trap::OpTrap;
-use c_check::CBase;
+use c_base::CBase;
 
 /// How many numbers a whole type has.
 pub(crate) fn size(of: CBase) -> i128

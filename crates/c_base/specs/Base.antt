@@ -1,11 +1,11 @@
 -- What a type of C is without its stars.
 use Rattle.std.specs.Prelude.{ℕ, Bool, true, false, not, ◌==◌, ◌||◌, ◌&&◌, nat_lt}
 use Rattle.std.specs.Prelude.{if◌then◌else◌}
-use Rattle.c_check.specs.declared.base.CBase.{CBase}
-use Rattle.c_check.specs.declared.base.CBase.TheVariants.{Void, Char, UnsignedChar, Short}
-use Rattle.c_check.specs.declared.base.CBase.TheVariants.{UnsignedShort, Int, UnsignedInt}
-use Rattle.c_check.specs.declared.base.CBase.TheVariants.{LongLong, UnsignedLongLong}
-use Rattle.c_check.specs.declared.base.CBase.TheVariants.{LogicVec, Handle, Scope}
+use Rattle.c_base.specs.declared.base.CBase.{CBase}
+use Rattle.c_base.specs.declared.base.CBase.TheVariants.{Void, Char, UnsignedChar, Short}
+use Rattle.c_base.specs.declared.base.CBase.TheVariants.{UnsignedShort, Int, UnsignedInt}
+use Rattle.c_base.specs.declared.base.CBase.TheVariants.{LongLong, UnsignedLongLong}
+use Rattle.c_base.specs.declared.base.CBase.TheVariants.{LogicVec, Handle, Scope}
 
 -- the bits of a whole type; 0 for the others
 abbrev pub width : CBase → ℕ

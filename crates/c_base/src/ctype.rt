@@ -1,6 +1,6 @@
 //! A type of C.
 ghost use Rattle.std.specs.Prelude.{◌≡◌};
-ghost use Rattle.c_check.specs.Types.{plain, is_number, is_pointer};
+ghost use Rattle.c_base.specs.Types.{plain, is_number, is_pointer};
 
 use crate::base::CBase;
 

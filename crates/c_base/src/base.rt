@@ -1,6 +1,6 @@
 //! What a type of C is without its stars.
 ghost use Rattle.std.specs.Prelude.{◌≡◌};
-ghost use Rattle.c_check.specs.Base.{width, is_signed, is_whole, promoted, common};
+ghost use Rattle.c_base.specs.Base.{width, is_signed, is_whole, promoted, common};
 
 /// What a type of C is without its stars: `void`, a whole type, or one of `svdpi.h`
 /// (ISO C 6.2.5; IEEE 1800-2017, H.7 and H.10).

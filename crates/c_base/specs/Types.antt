@@ -1,8 +1,8 @@
 -- Types of C.
 use Rattle.std.specs.Prelude.{Bool, false, not, ◌==◌, ◌&&◌}
-use Rattle.c_check.specs.declared.base.CBase.{CBase}
-use Rattle.c_check.specs.declared.ctype.CType.{CType}
-use Rattle.c_check.specs.Base.{is_whole}
+use Rattle.c_base.specs.declared.base.CBase.{CBase}
+use Rattle.c_base.specs.declared.ctype.CType.{CType}
+use Rattle.c_base.specs.Base.{is_whole}
 
 -- the base without stars and without const
 abbrev pub plain : CBase → CType
