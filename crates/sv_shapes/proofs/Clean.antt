@@ -26,7 +26,8 @@ use Rattle.sv_shapes.specs.declared.elements.Element.TheVariants as elements
 use Rattle.sv_shapes.specs.Bounds.{range_between}
 use Rattle.sv_shapes.specs.Elements.{narrow, packed, scalar, vector, whole, integer, is_signed, element_of, type_violations}
 use Rattle.sv_shapes.specs.Dimensions.{dimension_violations, ranges_of, limit_token, limit_violations}
-use Rattle.sv_shapes.specs.Kinds.{Kind, cells, is_within, within, shape_by, kind_by, kind_of, array_violations, cells_violations, kind_violations, KindsAreClean}
+use Rattle.sv_shapes.specs.Limits.{is_within}
+use Rattle.sv_shapes.specs.Kinds.{Kind, cells, within, shape_by, kind_by, kind_of, array_violations, cells_violations, kind_violations, KindsAreClean}
 use Rattle.sv_shapes.proofs.Parts.{both, type_clean, dimensions_clean}
 use Rattle.sv_shapes.proofs.Limits.{has_room, limits_clean}
 

@@ -1,13 +1,14 @@
 -- The kind of a declared name, and what its declaration violates.
-use Rattle.std.specs.Prelude.{◌≡◌, ℕ, ◌*◌, nat_le, Bool, ◌&&◌, if◌then◌else◌, ◌↔◌, Option, Some, None, IsSome, List, [], ◌∷◌, ◌++◌, length, flat_map}
+use Rattle.std.specs.Prelude.{◌≡◌, ℕ, Bool, true, false, if◌then◌else◌, ◌↔◌, Option, Some, None, option_map, option_and_then, IsSome, List, [], ◌∷◌, ◌++◌, flat_map, refl}
 use Rattle.dpi_rules.specs.declared.violation.Violation.{Violation}
 use Rattle.dpi_rules.specs.Order.{violation}
 use Rattle.dpi_shape.specs.declared.range.Range.{Range}
 use Rattle.dpi_shape.specs.declared.leaf.Leaf.{Leaf}
+use Rattle.dpi_shape.specs.declared.dims.Dims.{Dims}
 use Rattle.dpi_shape.specs.declared.shape.Shape.{Shape}
-use Rattle.dpi_shape.specs.declared.shape.TheConstants.{MOST_WIDTH, MOST_CELLS, MOST_DIMS}
-use Rattle.dpi_shape.specs.Leaf.{width, element_cells}
-use Rattle.dpi_shape.specs.Dims.{elements}
+use Rattle.dpi_shape.specs.declared.shape.TheConstants.{MOST_DIMS}
+use Rattle.dpi_shape.specs.Leaf.{element_cells}
+use Rattle.dpi_shape.specs.Dims.{dims_by, ranges_of as dims_in}
 use Rattle.dpi_shape.specs.Shape.{leaf_of, dims_of}
 use Rattle.sv_tree.specs.declared.types.DataType.{DataType}
 use Rattle.sv_tree.specs.declared.types.Dimension.{Dimension}
@@ -15,6 +16,7 @@ use Rattle.sv_shapes.specs.declared.elements.Element.{Element}
 use Rattle.sv_shapes.specs.declared.elements.Element.TheVariants as parts
 use Rattle.sv_shapes.specs.declared.kinds.VarKind.{VarKind}
 use Rattle.sv_shapes.specs.declared.kinds.VarKind.TheVariants as kinds
+use Rattle.sv_shapes.specs.Limits.{is_within, is_shape}
 use Rattle.sv_shapes.specs.Elements.{element_of, type_violations}
 use Rattle.sv_shapes.specs.Dimensions.{ranges_of, dimension_violations, limit_token, limit_violations}
 
@@ -34,10 +36,18 @@ kind_told (kinds.Cells shape) = shape_told shape
 kind_told kinds.Text = text
 kind_told kinds.Chandle = chandle
 
--- within the limits on ranges, bits and cells
-abbrev pub is_within : Leaf → List Range → Bool
-is_within leaf rs =
-    nat_le (length rs) MOST_DIMS && (nat_le (width leaf) MOST_WIDTH && nat_le (elements rs * element_cells leaf) MOST_CELLS)
+-- a leaf with ranges in that form, where the answer of the test on limits is given
+abbrev pub shape_if : (leaf : Leaf) (d : Dims) (b : Bool) → is_within leaf (dims_in d) ≡ b → Option Shape
+shape_if leaf d true h = Some (record { leaf = leaf; dims = d; sized = is_shape leaf (dims_in d) h })
+shape_if leaf d false h = None
+
+-- the same, if it is within the limits
+abbrev pub shape_in : Leaf → Dims → Option Shape
+shape_in leaf d = shape_if leaf d (is_within leaf (dims_in d)) refl
+
+-- the shape of this leaf and these ranges, if they are within the limits
+abbrev pub shape_kept : Leaf → List Range → Option Shape
+shape_kept leaf rs = option_and_then (shape_in leaf) (dims_by rs)
 
 -- cells of this leaf and these ranges, within the limits
 abbrev pub within : Leaf → List Range → Option Kind
@@ -49,7 +59,7 @@ shape_by leaf None = None
 shape_by leaf (Some rs) = within leaf rs
 
 -- the kind, if there are no dimensions
-abbrev pub alone : Kind → List Dimension → Option Kind
+abbrev pub alone : {K D : Type 0} → K → List D → Option K
 alone kind [] = Some kind
 alone kind (d ∷ ds) = None
 
@@ -64,8 +74,24 @@ kind_by (Some parts.Chandle) ds = alone chandle ds
 abbrev pub kind_of : DataType → List Dimension → Option Kind
 kind_of type ds = kind_by (element_of type) ds
 
+-- the shape of this leaf and these ranges, if there are any
+abbrev pub shape_at : Leaf → Option (List Range) → Option Shape
+shape_at leaf None = None
+shape_at leaf (Some rs) = shape_kept leaf rs
+
+-- the same kind as the code keeps it
+abbrev pub var_kind_by : Option Element → List Dimension → Option VarKind
+var_kind_by None ds = None
+var_kind_by (Some (parts.Packed leaf)) ds = option_map kinds.Cells (shape_at leaf (ranges_of ds))
+var_kind_by (Some parts.Text) ds = alone kinds.Text ds
+var_kind_by (Some parts.Chandle) ds = alone kinds.Chandle ds
+
+-- the kind of a variable of this type and these dimensions, if nothing in them is refused
+abbrev pub var_kind : DataType → List Dimension → Option VarKind
+var_kind type ds = var_kind_by (element_of type) ds
+
 -- the rule on arrays of strings and chandles is broken at the name, where there are dimensions
-abbrev pub array_broken : ℕ → ℕ → List Dimension → List Violation
+abbrev pub array_broken : {D : Type 0} → ℕ → ℕ → List D → List Violation
 array_broken file name [] = []
 array_broken file name (d ∷ ds) = violation file name 9 ∷ []
 

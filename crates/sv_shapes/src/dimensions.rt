@@ -34,7 +34,7 @@ pub fn dimension_range(dimension: &Dimension) -> Option<Range>
 }
 
 /// The `[` of a dimension.
-fn bracket(dimension: &Dimension) -> u32
+pub(crate) fn bracket(dimension: &Dimension) -> u32
     ensures { result ≡ spec.bracket dimension.now }
 {
     match dimension {
@@ -68,8 +68,8 @@ pub fn note_dimension(file: u32, dimension: &Dimension, found: &mut Option<Viola
     }
 }
 
-/// Notes what each dimension breaks by itself.
-pub(crate) fn note_dimensions(file: u32, dimensions: &[Dimension], found: &mut Option<Violation>)
+/// Notes what each dimension breaks by itself: see `note_dimension`.
+pub fn note_dimensions(file: u32, dimensions: &[Dimension], found: &mut Option<Violation>)
     ensures { found.new ≡ noted found.old (flat_map (spec.dimension_violations file) dimensions.now) }
 {
     for dimension in dimensions {

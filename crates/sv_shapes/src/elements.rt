@@ -20,7 +20,7 @@ pub enum Element {
 }
 
 /// The sign that is written, else the usual one of the type (6.11.3).
-fn is_signed(usual: bool, sign: &Option<Sign>) -> bool
+pub(crate) fn is_signed(usual: bool, sign: &Option<Sign>) -> bool
     ensures { result ≡ spec.is_signed usual sign.now }
 {
     match sign {

@@ -25,8 +25,9 @@ pub enum VarKind {
 }
 
 /// The shape of this leaf and these ranges, within the limits.
-fn within(leaf: Leaf, ranges: &[Range]) -> Option<Shape>
-    ensures { option_map spec.shape_told result ≡ spec.within leaf ranges.now }
+pub(crate) fn within(leaf: Leaf, ranges: &[Range]) -> Option<Shape>
+    ensures told { option_map spec.shape_told result ≡ spec.within leaf ranges.now }
+    ensures kept { result ≡ spec.shape_kept leaf ranges.now }
 {
     Shape::new(leaf, ranges)
 }
@@ -34,7 +35,8 @@ fn within(leaf: Leaf, ranges: &[Range]) -> Option<Shape>
 /// The shape of this leaf and these dimensions. None exactly where a dimension has no range, or a
 /// limit is passed.
 fn shape_of(leaf: Leaf, dimensions: &[Dimension]) -> Option<Shape>
-    ensures { option_map spec.shape_told result ≡ spec.shape_by leaf (ranges_of dimensions.now) }
+    ensures told { option_map spec.shape_told result ≡ spec.shape_by leaf (ranges_of dimensions.now) }
+    ensures kept { result ≡ spec.shape_at leaf (ranges_of dimensions.now) }
 {
     match dimensions {
         [] => within(leaf, &[]),
@@ -59,7 +61,8 @@ fn shape_of(leaf: Leaf, dimensions: &[Dimension]) -> Option<Shape>
 
 /// The kind, where there are no dimensions.
 fn alone(kind: VarKind, dimensions: &[Dimension]) -> Option<VarKind>
-    ensures { option_map spec.kind_told result ≡ spec.alone (spec.kind_told kind) dimensions.now }
+    ensures told { option_map spec.kind_told result ≡ spec.alone (spec.kind_told kind) dimensions.now }
+    ensures kept { result ≡ spec.alone kind dimensions.now }
 {
     match dimensions {
         [] => Some(kind),
@@ -71,7 +74,8 @@ fn alone(kind: VarKind, dimensions: &[Dimension]) -> Option<VarKind>
 /// is refused; else None. A shape has the type's leaf and the dimensions' ranges; `[n]` is
 /// `[0:n-1]` (IEEE 1800-2017, 7.4.2).
 pub fn kind_of(data_type: &DataType, dimensions: &[Dimension]) -> Option<VarKind>
-    ensures { option_map spec.kind_told result ≡ spec.kind_of data_type.now dimensions.now }
+    ensures told { option_map spec.kind_told result ≡ spec.kind_of data_type.now dimensions.now }
+    ensures kept { result ≡ spec.var_kind data_type.now dimensions.now }
 {
     match element_of(data_type) {
         None => None,
@@ -151,7 +155,8 @@ pub fn variable_kind(
     dimensions: &[Dimension],
     found: &mut Option<Violation>,
 ) -> Option<VarKind>
-    ensures kind { option_map spec.kind_told result ≡ spec.kind_of data_type.now dimensions.now }
+    ensures told { option_map spec.kind_told result ≡ spec.kind_of data_type.now dimensions.now }
+    ensures kind { result ≡ spec.var_kind data_type.now dimensions.now }
     ensures violations { found.new ≡ noted found.old (spec.kind_violations file name data_type.now dimensions.now) }
 {
     let element = element_of(data_type);
