@@ -1,0 +1,4 @@
+pub mod Before
+pub mod Formals
+pub mod Imports
+pub mod Signatures
