@@ -1,0 +1,4 @@
+pub mod Adding
+pub mod DeclaredLists
+pub mod BlockLists
+pub mod ItemNumbers
