@@ -1,0 +1,4 @@
+pub mod Adding
+pub mod ModuleLists
+pub mod Takes
+pub mod Marked

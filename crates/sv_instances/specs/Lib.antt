@@ -1,0 +1,4 @@
+pub mod Modules
+pub mod Instances
+pub mod Preorder
+pub mod Tops
