@@ -1,0 +1,9 @@
+pub mod Types
+pub mod Judged
+pub mod Literals
+pub mod Selects
+pub mod Prefixes
+pub mod Operators
+pub mod Chains
+pub mod Conditionals
+pub mod Concatenations
