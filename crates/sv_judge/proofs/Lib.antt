@@ -1,0 +1,5 @@
+pub mod Prefixed
+pub mod Trees
+pub mod Readings
+pub mod Loops
+pub mod Steps
