@@ -1,0 +1,13 @@
+use Rattle.dpi_rules.proofs.Noting.{noted_first, noted_next}
+use Rattle.sv_forms.proofs.Notes.{all_noted}
+use Rattle.sv_forms.specs.Statements.{declarator_violations}
+use Rattle.sv_forms.proofs.statements.note_declarators.Goals as goal
+
+pub loop-declarator-init : goal.loop-declarator-init
+loop-declarator-init c = noted_first (declarator_violations c.args.file c.args.around) c.args.found.now c.args.declarators.now
+
+pub loop-declarator-preserved : goal.loop-declarator-preserved
+loop-declarator-preserved c = noted_next c.args.declarators.now c.loop-declarator.declarator-index c.declarator-item.result c.loop-declarator-test.true c.declarator-item.is c.note_initial.ensures c.loop-declarator.invariant
+
+pub returns : goal.returns
+returns c = all_noted c.args.declarators.now c.loop-declarator.declarator-index c.loop-declarator-test.false c.loop-declarator.invariant

@@ -1,0 +1,4 @@
+pub mod Labels
+pub mod Calls
+pub mod Statements
+pub mod Items
