@@ -1,0 +1,11 @@
+pub mod Judged
+pub mod Pointers
+pub mod Operands
+pub mod Written
+pub mod Conversions
+pub mod Casts
+pub mod Unary
+pub mod Postfix
+pub mod Binary
+pub mod Assigning
+pub mod Choices
