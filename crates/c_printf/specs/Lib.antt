@@ -1,0 +1,3 @@
+pub mod Pieces
+pub mod Arguments
+pub mod Strings
