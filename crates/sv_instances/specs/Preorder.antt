@@ -1,5 +1,5 @@
 -- Instances in preorder, by what each module instantiates.
-use Rattle.std.specs.Prelude.{◌≡◌, ℕ, zero, suc, ◌+◌, Option, Some, None, Result, Ok, Err, List, [], ◌∷◌, ◌++◌, take, flat_map, slice_get, slice_index_or}
+use Rattle.std.specs.Prelude.{◌≡◌, ◌≤◌, ℕ, zero, suc, ◌+◌, Option, Some, None, Result, Ok, Err, List, [], ◌∷◌, ◌++◌, take, flat_map, slice_get, slice_index_or}
 use Rattle.dpi_ports.specs.declared.no_memory.NoMemory.{NoMemory}
 use Rattle.dpi_rules.specs.declared.violation.Violation.{Violation}
 use Rattle.dpi_rules.specs.Order.{violation}
@@ -43,3 +43,9 @@ pub record IsListed (made : List Instance) (most : ℕ) (found : Option Violatio
 abbrev pub Lists : List (List Child) → ℕ → List Child → ℕ → Option Violation → Result (List Instance) NoMemory → Option Violation → Type 0
 Lists children levels tops most found (Ok list) found' = IsListed (from_tops children levels tops) most found list found'
 Lists children levels tops most found (Err e) found' = Unit {0}
+
+-- as many levels as instances that are listed are enough: more levels list the same ones, since an
+-- instance so deep stands behind all those that it is inside of
+abbrev pub LevelsSuffice : Type 0
+LevelsSuffice =
+    (children : List (List Child)) (tops : List Child) (most levels : ℕ) → most ≤ levels → take most (from_tops children most tops) ≡ take most (from_tops children levels tops)

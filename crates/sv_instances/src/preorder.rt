@@ -65,7 +65,7 @@ fn inside(alloc: Global, outer: &[u8], child: &Child) -> Result<Instance, NoMemo
 }
 
 /// What a module instantiates, by its number.
-fn children_of(children: &[Items<Child>], number: usize) -> &[Child]
+pub(crate) fn children_of(children: &[Items<Child>], number: usize) -> &[Child]
     ensures { result.now ≡ spec.children_of children.now number }
 {
     match children.get(number) {

@@ -1,6 +1,9 @@
 //! Small designs, with their instances listed by hand.
 
-use crate::{Child, all_children, instances_of, modules_of, note_unknown, numbers_of};
+use crate::{
+    Child, all_children, instances_of, modules_of, note_unknown, numbers_of, tops_of,
+    without_cycles,
+};
 use dpi_ports::NoMemory;
 use dpi_rules::Violation;
 use sqlite_items::Items;
@@ -118,5 +121,58 @@ fn the_thousand_and_first_instance_is_refused(rt: HostRuntime) -> Result<(), NoM
     found = None;
     instances_of(alloc, &[], 1, &many_tops(alloc, 1000)?, &mut found)?;
     assert_eq!(rt; found, None);
+    Ok(())
+}
+
+/// Modules with one item each: the module that it instantiates, and its token.
+fn one_child_each(alloc: Global, items: &[(usize, u32)]) -> Result<Vec<Items<Child>>, NoMemory> {
+    let mut children = Vec::new(alloc);
+    for (number, token) in items {
+        let mut row = Items::new(alloc);
+        row.push(child(alloc, *number, *token, b"u")?)?;
+        children.push(row)?;
+    }
+    Ok(children)
+}
+
+/// The item of each module, the token of what rule 2 refuses, and how many items of each stay: a
+/// module that instantiates itself, one that leads to a cycle of two, and a chain.
+const CYCLES: [(&[(usize, u32)], Option<u32>, &[usize]); 3] = [
+    (&[(0, 4)], Some(4), &[0]),
+    (&[(1, 3), (2, 8), (1, 9)], Some(8), &[1, 0, 0]),
+    (&[(1, 3), (2, 8), (3, 9)], None, &[1, 1, 1]),
+];
+
+#[test]
+fn items_on_a_cycle_are_refused_and_left_out(rt: HostRuntime) -> Result<(), NoMemory> {
+    let alloc = rt.alloc();
+    for (items, refused, counts) in CYCLES {
+        let mut found = None;
+        let kept = without_cycles(alloc, &one_child_each(alloc, items)?, &mut found)?;
+        assert_eq!(rt; found, refused.map(|token| at(0, token, 2)));
+        assert_eq!(rt; kept.len(), counts.len());
+        for (row, count) in kept.as_slice().iter().zip(counts.iter()) {
+            assert_eq!(rt; row.len(), *count);
+        }
+    }
+    Ok(())
+}
+
+#[test]
+fn a_module_only_instantiated_on_a_cycle_is_a_top(rt: HostRuntime) -> Result<(), NoMemory> {
+    let alloc = rt.alloc();
+    let mut modules = Items::new(alloc);
+    modules.push(module(alloc, 1, b"m", b"n")?)?;
+    modules.push(module(alloc, 6, b"n", b"m")?)?;
+    let mut files = Vec::new(alloc);
+    files.push(SvFile { modules })?;
+    let modules = modules_of(alloc, &files)?;
+    let mut found = None;
+    let numbers = numbers_of(alloc, &modules, &mut found)?;
+    let table = all_children(alloc, &numbers, &modules)?;
+    let kept = without_cycles(alloc, table.as_slice(), &mut found)?;
+    assert_eq!(rt; found, Some(at(0, 1, 2)));
+    assert_eq!(rt; tops_of(alloc, table.as_slice(), &modules)?.len(), 0);
+    assert_eq!(rt; tops_of(alloc, kept.as_slice(), &modules)?.len(), 2);
     Ok(())
 }

@@ -11,7 +11,7 @@ use sqlite_items::Items;
 use std::alloc::Global;
 
 /// Marks this number, if there is a mark for it.
-fn mark(marks: &mut [bool], number: usize)
+pub(crate) fn mark(marks: &mut [bool], number: usize)
     ensures { spec.Marks marks.old (λ k. number == k) marks.new }
 {
     if number < marks.len() {
@@ -38,7 +38,7 @@ fn mark_table(marks: &mut [bool], children: &[Items<Child>])
 }
 
 /// The mark of this number.
-fn marked(marks: &[bool], number: usize) -> bool
+pub(crate) fn marked(marks: &[bool], number: usize) -> bool
     ensures { result ≡ spec.marked marks.now number }
 {
     match marks.get(number) {
