@@ -6,7 +6,7 @@ use Rattle.sv_tree.specs.declared.kinds.Direction.{Direction}
 use Rattle.sv_tree.specs.declared.kinds.Direction.TheVariants.{Input, Output, Inout}
 use Rattle.sv_shapes.specs.declared.kinds.VarKind.{VarKind}
 use Rattle.sv_shapes.specs.declared.imports.FormalKind.{FormalKind}
-use Rattle.sv_shapes.specs.declared.imports.FormalKind.TheVariants.{Sized, Open}
+use Rattle.sv_shapes.specs.declared.imports.FormalKind.TheVariants.{Sized}
 use Rattle.sv_signatures.specs.declared.formals.Formal.{Formal}
 use Rattle.sv_signatures.specs.declared.imports.ImportFormal.{ImportFormal}
 use Rattle.sv_signatures.specs.declared.results.Returns.{Returns}
@@ -22,12 +22,12 @@ use Rattle.sv_typing.specs.declared.types.ExprType.TheVariants as types
 use Rattle.sv_typing.specs.declared.types.Operand.{Operand}
 use Rattle.sv_typing.specs.Types.{kind_type}
 use Rattle.sv_typing.specs.Judged.{operand}
-use Rattle.sv_contexts.specs.Assignments.{assigned}
+use Rattle.sv_contexts.specs.Actuals as actuals
 use Rattle.sv_judge.specs.declared.calls.Passing.{Passing}
 use Rattle.sv_judge.specs.declared.forms.Form.{Form}
 use Rattle.sv_judge.specs.declared.forms.Whole.{Whole}
 use Rattle.sv_judge.specs.declared.place.Place.{Place}
-use Rattle.sv_judge.specs.Forms.{is_place}
+use Rattle.sv_judge.specs.Forms.{is_place, plain_leaf}
 
 -- where an expression stands: what names mean where a value stands and in a call, and what the module has
 pub record Env : Type 0 where
@@ -49,22 +49,16 @@ env_of p = record {
   in_function = p.in_function;
 }
 
--- the type of a formal of this kind
-abbrev pub target_of : Option VarKind → Option ExprType
-target_of None = None
-target_of (Some kind) = Some (kind_type kind)
-
--- the type of a formal of an import; an open array has none of its own
-abbrev pub import_target : Option FormalKind → Option ExprType
-import_target None = None
-import_target (Some (Sized kind)) = Some (kind_type kind)
-import_target (Some (Open leaf dims)) = None
+-- what a formal of a subroutine takes, of which nothing is open
+abbrev pub sized : Option VarKind → Option FormalKind
+sized None = None
+sized (Some kind) = Some (Sized kind)
 
 abbrev pub formal_passing : Formal → Passing
-formal_passing f = record { direction = f.direction; target = target_of f.kind }
+formal_passing f = record { direction = f.direction; formal = sized f.kind }
 
 abbrev pub import_passing : ImportFormal → Passing
-import_passing f = record { direction = f.direction; target = import_target f.kind }
+import_passing f = record { direction = f.direction; formal = f.kind }
 
 -- what the actual of this number is passed to, if there is a formal for it
 abbrev pub passing_at : Env → Option Callee → ℕ → Option Passing
@@ -127,19 +121,25 @@ is_misplaced Input form = false
 is_misplaced Output form = not (is_place form)
 is_misplaced Inout form = not (is_place form)
 
--- to a formal of this type
-abbrev pub passed_as : ℕ → ℕ → Direction → Option ExprType → Whole → List Violation
+-- to a formal of this kind, which is sized or an open array
+abbrev pub passed_as : ℕ → ℕ → Direction → Option FormalKind → Whole → List Violation
 passed_as file token direction None actual = []
-passed_as file token direction (Some target) actual =
-    only_if (is_misplaced direction actual.form) file token 13 ++ assigned file token (Some target) actual.value
+passed_as file token direction (Some formal) actual =
+    only_if (is_misplaced direction actual.form) file token 13
+    ++ actuals.passed file token (Some formal) (plain_leaf actual.form) actual.value
 
 abbrev pub passed_to : ℕ → ℕ → Passing → Whole → List Violation
-passed_to file token p actual = passed_as file token p.direction p.target actual
+passed_to file token p actual = passed_as file token p.direction p.formal actual
 
 -- an actual, by its first token, where there is a formal for it
 abbrev pub passed : ℕ → ℕ → Option Passing → Whole → List Violation
 passed file token None actual = []
 passed file token (Some p) actual = passed_to file token p actual
+
+-- the type of a variable of this kind
+abbrev pub target_of : Option VarKind → Option ExprType
+target_of None = None
+target_of (Some kind) = Some (kind_type kind)
 
 -- an expression of this type
 abbrev pub typed : Option ExprType → Option Operand

@@ -136,7 +136,7 @@ module _ (env : Env) where
   primary_step (Primary-F.Number n) = clean (number_operand n.bytes) (number_form n.bytes)
   primary_step (Primary-F.Text t) = clean text_operand forms.Other
   primary_step (Primary-F.Null k) = clean null_operand forms.Other
-  primary_step (Primary-F.Place l) = record { found = l.found; whole = record { value = read l.value; form = forms.Place } }
+  primary_step (Primary-F.Place l) = record { found = l.found; whole = record { value = read l.value; form = forms.Place l.value } }
   primary_step (Primary-F.Call c) = seen_other (c false)
   primary_step (Primary-F.Group k e) = seen_other (judged_of e.seen)
   primary_step (Primary-F.Concatenation k es) =

@@ -4,10 +4,9 @@ ghost use Rattle.dpi_rules.specs.declared.violation.Violation.{Violation};
 ghost use Rattle.dpi_rules.specs.Least.{noted, is_clean};
 ghost use Rattle.sv_judge.specs.Calls as spec;
 
-use crate::forms::{Form, Whole};
+use crate::forms::{Form, Whole, plain_leaf};
 use crate::place::Place;
 use dpi_rules::{Violation, note};
-use sv_contexts::note_assigned;
 use sv_names::Callee;
 use sv_shapes::{FormalKind, VarKind};
 use sv_signatures::Returns;
@@ -26,28 +25,17 @@ const CALL_RULE: u8 = 22;
 pub struct Passing {
     /// The direction of the formal.
     pub direction: Direction,
-    /// The type of the formal. None where it is refused.
-    pub target: Option<ExprType>,
+    /// What the formal takes. None where it is refused.
+    pub formal: Option<FormalKind>,
 }
 
-/// The type of a formal of this kind.
-fn target_of(kind: Option<VarKind>) -> Option<ExprType>
-    ensures { result ≡ spec.target_of kind }
+/// What a formal of a subroutine takes, of which nothing is open.
+fn sized(kind: Option<VarKind>) -> Option<FormalKind>
+    ensures { result ≡ spec.sized kind }
 {
     match kind {
-        Some(kind) => Some(kind_type(&kind)),
+        Some(kind) => Some(FormalKind::Sized(kind)),
         None => None,
-    }
-}
-
-/// The type of a formal of an import. None where it is refused or an open array.
-fn import_target(kind: Option<FormalKind>) -> Option<ExprType>
-    ensures { result ≡ spec.import_target kind }
-{
-    let kind = kind?;
-    match kind {
-        FormalKind::Sized(kind) => Some(kind_type(&kind)),
-        FormalKind::Open { .. } => None,
     }
 }
 
@@ -60,14 +48,14 @@ pub fn passing_at(place: &Place<'_, '_>, callee: Option<Callee>, number: usize) 
             let formal = place.subroutines.get(n)?.formals.get(number)?;
             Some(Passing {
                 direction: formal.direction,
-                target: target_of(formal.kind),
+                formal: sized(formal.kind),
             })
         }
         Callee::Import(n) => {
             let formal = place.imports.get(n)?.formals.get(number)?;
             Some(Passing {
                 direction: formal.direction,
-                target: import_target(formal.kind),
+                formal: formal.kind,
             })
         }
     }
@@ -172,7 +160,7 @@ fn is_misplaced(direction: Direction, form: Form) -> bool
 {
     match direction {
         Direction::Input => false,
-        Direction::Output | Direction::Inout => !matches!(form, Form::Place),
+        Direction::Output | Direction::Inout => !matches!(form, Form::Place(_)),
     }
 }
 
@@ -186,16 +174,18 @@ fn note_passed_to(
 )
     ensures { found.new ≡ noted found.old (spec.passed_to file token passing actual) }
 {
-    if passing.target.is_some() {
+    if passing.formal.is_some() {
         let misplaced = is_misplaced(passing.direction, actual.form);
         note_if(file, token, PLACE_RULE, misplaced, found);
-        note_assigned(file, token, passing.target, actual.value, found);
+        let plain = plain_leaf(actual.form);
+        sv_contexts::note_passed(file, token, passing.formal, plain, actual.value, found);
     }
 }
 
 /// Notes what an actual violates, by its first token, where there is a formal for it: rule 13 where
 /// the formal is an output or inout and the actual can't be assigned to, and what an assignment to the
-/// formal violates. Nothing is noted for a formal that is refused.
+/// formal violates, or for an open array of an import what doesn't fit it (35.5.6.1). Nothing is noted
+/// for a formal that is refused.
 pub fn note_passed(
     file: u32,
     token: u32,
@@ -207,6 +197,16 @@ pub fn note_passed(
 {
     if let Some(passing) = passing {
         note_passed_to(file, token, passing, actual, found);
+    }
+}
+
+/// The type of a variable of this kind, if there is one.
+fn target_of(kind: Option<VarKind>) -> Option<ExprType>
+    ensures { result ≡ spec.target_of kind }
+{
+    match kind {
+        Some(kind) => Some(kind_type(&kind)),
+        None => None,
     }
 }
 

@@ -1,16 +1,17 @@
 //! How an expression is written, as far as rules look at it.
 ghost use Rattle.std.specs.Prelude.{◌≡◌};
-ghost use Rattle.dpi_rules.specs.declared.violation.Violation.{Violation};
 ghost use Rattle.sv_judge.specs.Forms as spec;
 
 use dpi_literal::sv_form;
-use sv_typing::{Joint, Operand};
+use dpi_shape::Leaf;
+use sv_typing::{Joint, Operand, Selected};
 
 /// The form of an expression.
 #[derive(Clone, Copy, Debug, PartialEq, Eq, Drop)]
 pub enum Form {
-    /// A name with selects, which can be assigned to.
-    Place,
+    /// A name with selects, which can be assigned to, and what they select. None where that is not
+    /// known.
+    Place(Option<Selected>),
     /// A number token without a size.
     Bare,
     /// Any other.
@@ -54,6 +55,33 @@ pub fn joint(whole: Whole) -> Joint
     Joint {
         operand: whole.value,
         bare: matches!(whole.form, Form::Bare),
+    }
+}
+
+/// The leaf of what is selected, where it is a packed variable or one element of an array.
+fn element_leaf(selected: Selected) -> Option<Leaf>
+    ensures { result ≡ spec.element_leaf selected }
+{
+    match selected {
+        Selected::Cells { shape, taken } => {
+            if taken < shape.dims() {
+                None
+            } else {
+                Some(shape.leaf())
+            }
+        }
+        Selected::Text | Selected::Chandle | Selected::Bits { .. } => None,
+    }
+}
+
+/// The leaf of a packed variable or of one element of an array that is written as a name with selects
+/// of elements alone. None of anything else.
+pub fn plain_leaf(form: Form) -> Option<Leaf>
+    ensures { result ≡ spec.plain_leaf form }
+{
+    match form {
+        Form::Place(selected) => element_leaf(selected?),
+        Form::Bare | Form::Other => None,
     }
 }
 

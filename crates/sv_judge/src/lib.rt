@@ -16,12 +16,14 @@ mod calls;
 mod forms;
 mod place;
 mod prefixes;
+#[cfg(test)]
+mod tests;
 mod walk;
 
 pub use calls::{
     Passing, call_value, note_callee, note_passed, passing_at, result_of, unless_found,
 };
-pub use forms::{Form, Whole, chain_form, joint, number_form, other};
+pub use forms::{Form, Whole, chain_form, joint, number_form, other, plain_leaf};
 pub use place::Place;
 pub use prefixes::{all_prefixed, with_prefixes};
 pub use walk::{judge_call, judge_expr, judge_lvalue};

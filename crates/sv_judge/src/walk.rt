@@ -171,10 +171,13 @@ fn primary(
         }),
         Primary::Text(_) => Ok(other(Some(text_operand()))),
         Primary::Null(_) => Ok(other(Some(null_operand()))),
-        Primary::Place(lvalue) => Ok(Whole {
-            value: read(judge_lvalue(alloc, place, lvalue, found)?),
-            form: Form::Place,
-        }),
+        Primary::Place(lvalue) => {
+            let selected = judge_lvalue(alloc, place, lvalue, found)?;
+            Ok(Whole {
+                value: read(selected),
+                form: Form::Place(selected),
+            })
+        }
         Primary::Call(call) => Ok(other(judge_call(alloc, place, call, false, found)?)),
         Primary::Group(_, e) => Ok(other(judge_expr(alloc, place, e.get(), found)?.value)),
         Primary::Concatenation(token, es) => {
