@@ -1,0 +1,10 @@
+use Rattle.std.proofs.Common.{drop}
+use Rattle.sv_judge.specs.Calls.{env_of}
+use Rattle.sv_walk.specs.Heads.{value_of}
+use Rattle.sv_walk.proofs.Comparing.{IsKeeping, alone}
+use Rattle.sv_walk.proofs.heads.compare_all.Given as goal
+
+-- what is kept so far, and what is left
+abbrev pub invariant-loop-e : goal.invariant-loop-e
+invariant-loop-e l =
+    IsKeeping (env_of l.place) (value_of (env_of l.place)) alone l.initial.values.items l.initial.found l.es (drop l.e-index l.es) l.values.items l.found

@@ -1,0 +1,7 @@
+pub mod Around
+pub mod Values
+pub mod Declarations
+pub mod Changes
+pub mod Heads
+pub mod Plain
+pub mod Walk
