@@ -1,0 +1,4 @@
+pub mod Adding
+pub mod StatementLists
+pub mod BlockLists
+pub mod Exporting

@@ -1,0 +1,9 @@
+use Rattle.std.proofs.Common.{◌≡◌, ◌++◌, drop}
+use Rattle.std.specs.Prelude.{flat_map}
+use Rattle.sv_design.specs.Imports.{item_imports}
+use Rattle.sv_design.proofs.imports.add_imports.Given as goal
+
+-- what is listed, and the items left over
+abbrev pub invariant-loop-item : goal.invariant-loop-item
+invariant-loop-item l =
+    l.list.items ++ flat_map (item_imports l.file) (drop l.item-index l.items) ≡ l.initial.list.items ++ flat_map (item_imports l.file) l.items

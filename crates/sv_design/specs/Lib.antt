@@ -1,0 +1,9 @@
+pub mod Declarations
+pub mod Statements
+pub mod Items
+pub mod Counted
+pub mod Subroutines
+pub mod Imports
+pub mod Exports
+pub mod Blocks
+pub mod Places

@@ -1,0 +1,5 @@
+pub mod Instances
+pub mod Homes
+pub mod Scopes
+pub mod Names
+pub mod Variables
