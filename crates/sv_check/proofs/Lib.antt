@@ -1,0 +1,5 @@
+pub mod Numbered
+pub mod Inner
+pub mod Seen
+pub mod Listed
+pub mod Told
