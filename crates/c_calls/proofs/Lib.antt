@@ -1,0 +1,4 @@
+pub mod Adding
+pub mod Notes
+pub mod ExpressionForms
+pub mod StatementForms

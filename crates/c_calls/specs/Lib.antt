@@ -1,0 +1,4 @@
+pub mod Refusals
+pub mod Expressions
+pub mod Statements
+pub mod Files

@@ -1,0 +1,5 @@
+pub mod Adding
+pub mod Walking
+pub mod InnerLists
+pub mod SameTypes
+pub mod Kept
