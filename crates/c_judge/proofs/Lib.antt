@@ -1,0 +1,11 @@
+pub mod Lists
+pub mod Prefixed
+pub mod Grouping
+pub mod PrefixParts
+pub mod PartTrees
+pub mod Typing
+pub mod Trees
+pub mod TreeWords
+pub mod Readings
+pub mod Loops
+pub mod Steps
