@@ -1,0 +1,4 @@
+pub mod Functions
+pub mod Sizes
+pub mod Inside
+pub mod Objects
