@@ -1,0 +1,5 @@
+pub mod Places
+pub mod Sight
+pub mod Declarations
+pub mod Statements
+pub mod File
