@@ -1,0 +1,5 @@
+pub mod Table
+pub mod Fits
+pub mod Functions
+pub mod Kinds
+pub mod Signatures
