@@ -1,0 +1,4 @@
+pub mod Gathered
+pub mod Named
+pub mod Seen
+pub mod Rows
