@@ -1,23 +1,26 @@
 -- What comes of the files of a command.
-use Rattle.std.proofs.Common.{◌≡◌, ◌≤◌, ◌<◌, ℕ, zero, suc, true, List, [], ◌∷◌, ◌++◌, Option, Some, None, Result, Ok, Err, IfOk, IfSome, inl, inr, length, map, take, take_all, drop, get_or, slice_get, option_map, refl, sym, ap, subst, ◌∙◌, arith}
+use Rattle.std.proofs.Common.{◌≡◌, ◌≤◌, ◌<◌, ℕ, ℤ, zero, suc, Bool, true, false, ◌&&◌, nat_lt, List, [], ◌∷◌, ◌++◌, Option, Some, None, Result, Ok, Err, IfOk, OnOk, IfSome, inl, inr, length, map, take, take_all, drop, get_or, slice_get, option_map, refl, sym, ap, subst, ◌∙◌, arith}
+use Rattle.std.proofs.lemmas.Bool.Decides.{nat_tests}
 use Rattle.std.proofs.lemmas.Option.{slice_get-map, slice_get-get_or}
-use Rattle.std.specs.Prelude.{option_and_then}
+use Rattle.std.specs.List.{list_all}
 use Rattle.std.specs.Option.{option_map_or}
-use Rattle.std.specs.Result.{result_ok}
-use Rattle.dpi_lex.specs.Languages.{sv_lexed, c_lexed}
-use Rattle.dpi_lex.specs.Lexed.{Lexed}
-use Rattle.dpi_lex.specs.declared.token.Token.{Token}
-use Rattle.dpi_lex.specs.declared.fault.LexFault.{LexFault}
 use Rattle.dpi_ports.specs.Told.{Contents, HasRisen, Takes}
-use Rattle.dpirun.specs.Answer.{Outcome, not_built, ran, sum_of_tokens, sum_of_texts, run_of_pair, IsGood, AreGood, Reaches, refusal, accepted}
-use Rattle.dpirun.specs.Command.{FileNames, is_command, pair_of, first_of}
+use Rattle.dpirun.specs.Answer.{Outcome, not_built, ran, sum_of_files, run_of_pair, run_of, refused_by, outcome_of, Reaches, IsAnswer, other_words, refusal, rule_broken, accepted}
+use Rattle.dpirun.specs.Command.{FileNames, is_file, is_command, pair_of, first_of}
 use Rattle.dpirun.specs.Ends.{Ends, IsDue, answered, failed}
-use Rattle.dpirun.specs.Faults.{lexed_as}
-use Rattle.dpirun.specs.Program.{Printed, Answers}
-use Rattle.dpirun.specs.Refusals.{WhenRefused, IsOfFile, IsFound, ComesOf}
+use Rattle.dpirun.specs.Program.{Printed, Answers, LeavesUnread}
+use Rattle.dpirun.specs.Readings.{Adds}
+use Rattle.dpirun.specs.Refusals.{WhenRefused, IsOfFile, ComesOf}
+use Rattle.dpirun.specs.Rules.{first_broken}
+use Rattle.dpirun.specs.Sources.{Sources, AreSources}
+use Rattle.dpirun.specs.declared.outcome.Sum.{Sum}
 use Rattle.dpirun.specs.declared.reading.ReadFault.{ReadFault}
 use Rattle.dpirun.specs.declared.reading.ReadFault.TheVariants.{Refused, Unread, NoMemory}
-use Rattle.dpirun.proofs.Endings.{Shows, pair_shows}
+use Rattle.dpirun.specs.declared.rules.Broken.{Broken}
+
+-- no test both fails and holds
+truth : true ≡ false → ⊥
+truth e = cc
 
 -- what holds of each value of a result
 pub if_ok : {T E : Type 0} (r : Result T E) (P Q : T → Type 0) → ((v : T) → P v → Q v) → IfOk r P → IfOk r Q
@@ -45,41 +48,14 @@ fault_ends told now words file Unread old mid new last outcome kept reached is l
 })
 fault_ends told now words file NoMemory old mid new last outcome kept reached is later risen named comes = absurd comes
 
--- the first file of a pair, and the second
-pub first_reached : (told : Option Contents) (sv c : List ℕ) → is_command (sv ∷ c ∷ []) ≡ true → Reaches told (sv ∷ c ∷ []) sv
-first_reached told sv c command =
-    record { command = command; before = []; after = c ∷ []; split = refl; texts = []; good = tt }
-
-pub second_reached : (told : Option Contents) (sv c text : List ℕ) → is_command (sv ∷ c ∷ []) ≡ true → IsGood told sv text → Reaches told (sv ∷ c ∷ []) c
-second_reached told sv c text command good =
-    record { command = command; before = sv ∷ []; after = []; split = refl; texts = text ∷ []; good = (good, tt) }
-
--- the sum of two texts is that of their tokens
-sum_is : (sv c : Lexed) → sv_lexed sv.text ≡ Ok sv.tokens → c_lexed c.text ≡ Ok c.tokens → sum_of_texts sv.text c.text ≡ sum_of_tokens sv c
-sum_is sv c is_sv is_c =
-    ap (λ (r : Result (List Token) LexFault). option_and_then (λ ss. option_and_then (λ cs. sum_of_tokens (record { text = sv.text; tokens = ss }) (record { text = c.text; tokens = cs })) (result_ok (c_lexed c.text))) (result_ok r)) is_sv
-    ∙ ap (λ (r : Result (List Token) LexFault). option_and_then (λ cs. sum_of_tokens sv (record { text = c.text; tokens = cs })) (result_ok r)) is_c
-
--- both files of a pair are accepted
-pub pair_ends : (told now : Option Contents) (sv c : List ℕ) (ss cs : Lexed) (old new : ℕ) (last : Option (List ℕ)) (outcome : Outcome)
-    → now ≡ told → is_command (sv ∷ c ∷ []) ≡ true → pair_of (sv ∷ c ∷ []) ≡ Some (record { sv = sv; c = c })
-    → IsFound told sv ss → IsFound now c cs → outcome ≡ option_map_or (ran c) (sum_of_tokens ss cs) (not_built sv)
-    → Ends told (sv ∷ c ∷ []) old new last outcome
-pair_ends told now sv c ss cs old new last outcome kept command pair found found_c is =
-    let shows = pair_shows (sv ∷ c ∷ []) (record { sv = sv; c = c }) pair in
-    let good_c : IsGood told c cs.text = subst (λ t. IsGood t c cs.text) kept found_c.good in
-    let is_sv : sv_lexed ss.text ≡ Ok ss.tokens = subst (λ l. lexed_as l ss.text ≡ Ok ss.tokens) shows.sv_is found.lexed_is in
-    let is_c : c_lexed cs.text ≡ Ok cs.tokens = subst (λ l. lexed_as l cs.text ≡ Ok cs.tokens) shows.c_is found_c.lexed_is in
-    inl (accepted command (ss.text ∷ cs.text ∷ []) (found.good, (good_c, tt))
-    (is ∙ ap (λ s. option_map_or (ran c) s (not_built sv)) (sym (sum_is ss cs is_sv is_c))
-    ∙ ap (λ o. option_map_or (λ f. run_of_pair f (ss.text ∷ cs.text ∷ [])) o (not_built sv)) (sym pair)))
-
--- files that are no pair are all accepted
-pub files_end : (told : Option Contents) (words texts : List (List ℕ)) (old new : ℕ) (last : Option (List ℕ)) (outcome : Outcome)
-    → is_command words ≡ true → pair_of words ≡ None → AreGood told words texts → outcome ≡ not_built (first_of words)
-    → Ends told words old new last outcome
-files_end told words texts old new last outcome command other good is =
-    inl (accepted command texts good (is ∙ ap (λ o. option_map_or (λ f. run_of_pair f texts) o (not_built (first_of words))) (sym other)))
+-- files that are accepted by themselves end the call
+pub sources_end : (told : Option Contents) (words : List (List ℕ)) (s : Sources) (old new : ℕ) (last : Option (List ℕ)) (outcome : Outcome)
+    → is_command words ≡ true → AreSources told words s → outcome ≡ outcome_of words s → Ends told words old new last outcome
+sources_end told words s old new last outcome command all is = inl (by (first_broken s) refl)
+  where
+    by : (o : Option Broken) → first_broken s ≡ o → IsAnswer told words outcome
+    by (Some b) e = rule_broken command s all b e (is ∙ ap (λ o. option_map_or (refused_by s) o (run_of words s)) e)
+    by None e = accepted command s all e (is ∙ ap (λ o. option_map_or (refused_by s) o (run_of words s)) e)
 
 -- what was due when an outcome was cut short
 pub due : (told : Option Contents) (words : List (List ℕ)) (old new : ℕ) (last : Option (List ℕ)) (outcome : Outcome)
@@ -101,51 +77,47 @@ take_more [] i w is = cc
 take_more (x ∷ xs) zero w is = let same : x ≡ w = cc in ap (λ y. y ∷ []) same
 take_more (x ∷ xs) (suc i) w is = ap (λ l. x ∷ l) (take_more xs i w is)
 
--- the texts of the files before one, and its own
-good_more : (told : Option Contents) (before texts : List (List ℕ)) (file text : List ℕ) → AreGood told before texts → IsGood told file text
-    → AreGood told (before ++ file ∷ []) (texts ++ text ∷ [])
-good_more told [] [] file text good one = (one, tt)
-good_more told [] (t ∷ texts) file text good one = absurd good
-good_more told (b ∷ before) [] file text good one = absurd good
-good_more told (b ∷ before) (t ∷ texts) file text good one = (good.0, good_more told before texts file text good.1 one)
+-- no file was read yet
+pub no_sources : (told : Option Contents) (s : Sources) → s ≡ record { sv = []; sv_trees = []; c = []; c_trees = [] } → AreSources told [] s
+no_sources told s is =
+    let P : Sources → Type 0 = λ t. AreSources told [] t in
+    subst P (sym is) (record { sv_names = refl; sv_read = tt; c_names = refl; c_read = tt })
 
--- the files have texts that are accepted
-pub record HaveTexts (told : Option Contents) (files : List (List ℕ)) : Type 0 where
-  pub texts : List (List ℕ)
-  pub good : AreGood told files texts
-
-pub no_texts : (told : Option Contents) → HaveTexts told []
-no_texts told = record { texts = []; good = tt }
-
--- one file more has its text
-pub texts_more : (told now : Option Contents) (words : List (List ℕ)) (i : ℕ) (file : List ℕ) (l : Lexed) → now ≡ told
-    → slice_get words i ≡ Some file → HaveTexts told (take i words) → IsFound now file l → HaveTexts told (take (suc i) words)
-texts_more told now words i file l kept is before found =
-    let P : List (List ℕ) → Type 0 = λ ws. HaveTexts told ws in
-    subst P (sym (take_more words i file is))
-    (record {
-      texts = before.texts ++ l.text ∷ [];
-      good = good_more told (take i words) before.texts file l.text before.good (subst (λ t. IsGood t file l.text) kept found.good);
-    })
+-- one file more was read
+pub sources_more : (told now : Option Contents) (words : List (List ℕ)) (i : ℕ) (file : List ℕ) (s t : Sources) → now ≡ told
+    → slice_get words i ≡ Some file → AreSources told (take i words) s → Adds now file s t → AreSources told (take (suc i) words) t
+sources_more told now words i file s t kept is before adds =
+    let P : List (List ℕ) → Type 0 = λ ws. AreSources told ws t in
+    subst P (sym (take_more words i file is)) (subst (λ n. Adds n file s t) kept adds (take i words) before)
 
 -- the file is reached behind those
-pub reached_at : (told : Option Contents) (words : List (List ℕ)) (i : ℕ) (file : List ℕ) → is_command words ≡ true
-    → slice_get words i ≡ Some file → HaveTexts told (take i words) → Reaches told words file
-reached_at told words i file command is before = record {
+pub reached_at : (told : Option Contents) (words : List (List ℕ)) (i : ℕ) (file : List ℕ) (s : Sources) → is_command words ≡ true
+    → slice_get words i ≡ Some file → AreSources told (take i words) s → Reaches told words file
+reached_at told words i file s command is before = record {
   command = command;
   before = take i words;
   after = drop (suc i) words;
   split = split_at words i file is;
-  texts = before.texts;
-  good = before.good;
+  sources = s;
+  read = before;
 }
 
--- what comes of a pair comes of its words
-pub pair_words_end : (told : Option Contents) (words : List (List ℕ)) (files : FileNames) (old new : ℕ) (last : Option (List ℕ)) (outcome : Outcome)
-    → Shows words files → Ends told (files.sv ∷ files.c ∷ []) old new last outcome → Ends told words old new last outcome
-pair_words_end told words files old new last outcome shows ends =
-    let P : List (List ℕ) → Type 0 = λ ws. Ends told ws old new last outcome in
-    subst P (sym shows.words_are) ends
+-- all files were read
+pub all_sources : (told : Option Contents) (words : List (List ℕ)) (i : ℕ) (s : Sources) → length words ≤ i → AreSources told (take i words) s
+    → AreSources told words s
+all_sources told words i s past read =
+    let P : List (List ℕ) → Type 0 = λ ws. AreSources told ws s in
+    subst P (take_all i words past) read
+
+-- a command has at most a thousand words
+pub few_words : (words : List (List ℕ)) → is_command words ≡ true → length words ≤ 1000
+few_words words command = by (nat_lt 0 (length words)) refl (nat_lt (length words) 1001) refl
+  where
+    by : (a : Bool) → nat_lt 0 (length words) ≡ a → (b : Bool) → nat_lt (length words) 1001 ≡ b → length words ≤ 1000
+    by false least b most = absurd (truth (sym command ∙ ap (λ t. (t && nat_lt (length words) 1001) && list_all is_file words) least))
+    by true least true most = grind (arith, nat_tests)
+    by true least false most =
+        absurd (truth (sym command ∙ ap (λ t. (nat_lt 0 (length words) && t) && list_all is_file words) most ∙ ap (λ t. (t && false) && list_all is_file words) least))
 
 -- the name of an item of a list
 pub named_at : {S : Type 0} (name_of : S → List ℕ) (items all : List S) (i : ℕ) (item : S) (file : List ℕ) → items ≡ all → i < length items
@@ -155,17 +127,56 @@ named_at {S = S} name_of items all i item file same inside is named =
     subst P same
     (slice_get-map name_of items i ∙ ap (option_map name_of) (slice_get-get_or items i item inside) ∙ ap (λ x. Some (name_of x)) (sym is) ∙ ap Some (sym named))
 
--- all files have texts
-pub all_texts : (told : Option Contents) (words : List (List ℕ)) (i : ℕ) → length words ≤ i → HaveTexts told (take i words) → HaveTexts told words
-all_texts told words i past texts =
-    let P : List (List ℕ) → Type 0 = λ ws. HaveTexts told ws in
-    subst P (take_all i words past) texts
+-- what holds where a call succeeds
+pub on_ok : {T E : Type 0} (r : Result T E) (P Q : Type 0) → (P → Q) → OnOk r P → OnOk r Q
+on_ok (Ok v) P Q f h = f h
+on_ok (Err e) P Q f h = tt
 
 -- the first of a command's words
 pub first_named : {S : Type 0} (name_of : S → List ℕ) (items : List S) (item : S) (file : List ℕ) → is_command (map name_of items) ≡ true → item ≡ get_or items 0 item → file ≡ name_of item
     → first_of (map name_of items) ≡ file
 first_named name_of [] item file command is named = cc
 first_named name_of (x ∷ xs) item file command is named = let same : x ≡ item = sym is in ap name_of same ∙ sym named
+
+-- the status of a run
+ran_low : (file : List ℕ) (line column : ℕ) (v : Option ℤ) → (ran file (record { value = v; line = line; column = column })).status ≤ 6
+ran_low file line column (Some v) = omega arith
+ran_low file line column None = omega arith
+
+pair_low : (files : FileNames) (o : Option Sum) → (option_map_or (ran files.c) o (not_built files.sv)).status ≤ 6
+pair_low files (Some sum) = ran_low files.c sum.line sum.column sum.value
+pair_low files None = omega arith
+
+run_low : (words : List (List ℕ)) (s : Sources) → (run_of words s).status ≤ 6
+run_low words s = by (pair_of words)
+  where
+    by : (o : Option FileNames) → (option_map_or (λ files. run_of_pair files s.sv s.c) o (not_built (first_of words))).status ≤ 6
+    by (Some files) = pair_low files (sum_of_files s.sv s.c)
+    by None = omega arith
+
+-- and that of any answer
+answer_low : (told : Option Contents) (words : List (List ℕ)) (outcome : Outcome) → IsAnswer told words outcome → outcome.status ≤ 6
+answer_low told words outcome (other_words other is) = rw is (omega arith)
+answer_low told words outcome (refusal file line column code reached refused is) = rw is (omega arith)
+answer_low told words outcome (rule_broken command s all b broken is) = rw is (omega arith)
+answer_low told words outcome (accepted command s all clean is) = rw is (run_low words s)
+
+-- however the call ends
+pub ends_low : (told : Option Contents) (words : List (List ℕ)) (old new : ℕ) (last : Option (List ℕ)) (outcome : Outcome)
+    → Ends told words old new last outcome → outcome.status ≤ 7
+ends_low told words old new last outcome (inl a) = omega (arith, answer_low told words outcome a)
+ends_low told words old new last outcome (inr u) = rw u.is (omega arith)
+
+-- an outcome of status 7 stands for a file that isn't read
+pub unread_of : (told : Option Contents) (words : List (List ℕ)) (old new : ℕ) (last : Option (List ℕ)) (outcome : Outcome) (sinks : Printed) (status : ℕ)
+    → Ends told words old new last outcome → (status ≤ 7 → status ≡ outcome.status)
+    → (status ≤ 7 → Takes sinks.out_old sinks.out_new outcome.out) → (status ≤ 7 → Takes sinks.err_old sinks.err_new outcome.err)
+    → status ≡ 7 → LeavesUnread told words old new last sinks
+unread_of told words old new last outcome sinks status (inl a) whole out err seven =
+    absurd (omega (arith, seven, whole (omega (arith, seven)), answer_low told words outcome a))
+unread_of told words old new last outcome sinks status (inr u) whole out err seven =
+    let few : status ≤ 7 = omega (arith, seven) in
+    record { outcome = outcome; is = u; takes = record { out = out few; err = err few } }
 
 -- an outcome of a status that isn't 7 is an answer
 pub answers_of : (told : Option Contents) (words : List (List ℕ)) (old new : ℕ) (last : Option (List ℕ)) (outcome : Outcome) (sinks : Printed) (status : ℕ)

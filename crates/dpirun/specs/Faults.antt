@@ -1,6 +1,6 @@
--- Which texts of a language are accepted, and with which code and at which place others are refused.
+-- With which code and at which place a text of a language is refused.
 use Rattle.std.specs.Prelude.{◌≡◌, ◌≤◌, ◌<◌, ℕ, Bool, List, Result, Ok, Err, length, codes}
-use Rattle.dpi_grammar.specs.Faults.{IsParsed, IsRefused, IsTooDeep}
+use Rattle.dpi_grammar.specs.Faults.{IsRefused, IsTooDeep}
 use Rattle.dpi_grammar.specs.Told.{Told}
 use Rattle.dpi_lex.specs.Languages.{sv_lexed, c_lexed}
 use Rattle.dpi_lex.specs.Lexed.{Lexed}
@@ -50,10 +50,6 @@ pub record HasFault (lexed : Lexes) (text : List ℕ) (fault : LexFault) : Type 
   pub lexed_as : lexed text ≡ Err fault
 
 module _ {X : Type 0} (lexed : Lexes) (told : X → Told Word) (late : Word → Bool) where
-  -- the words of the text are those of a file's tree
-  abbrev pub IsFile : List ℕ → Type 0
-  IsFile text = HasTokens lexed text (λ l. (tree : X) × IsParsed told most_levels (words_of l) tree)
-
   -- the text is refused with this code at this place, in bytes from 0
   abbrev pub IsFault : List ℕ → Code → ℕ → Type 0
   IsFault text TooLong place = (most_bytes < length text) × (place ≡ 0)
@@ -70,12 +66,7 @@ abbrev pub lexed_as : Language → Lexes
 lexed_as SystemVerilog = sv_lexed
 lexed_as C = c_lexed
 
--- the text is accepted as a file of that language
-abbrev pub IsAccepted : Language → List ℕ → Type 0
-IsAccepted SystemVerilog = IsFile sv_lexed sv_items.file_told sv_reading.late
-IsAccepted C = IsFile c_lexed c_file.file_told c_reading.late
-
--- it is refused as one, with this code at this place
+-- a text is refused as a file of that language, with this code at this place
 abbrev pub IsRefusal : Language → List ℕ → Code → ℕ → Type 0
 IsRefusal SystemVerilog = IsFault sv_lexed sv_items.file_told sv_reading.late
 IsRefusal C = IsFault c_lexed c_file.file_told c_reading.late

@@ -7,5 +7,8 @@ pub mod Literal
 pub mod Names
 pub mod Pair
 pub mod Program
+pub mod Readings
 pub mod Refusals
+pub mod Rules
 pub mod Shown
+pub mod Sources

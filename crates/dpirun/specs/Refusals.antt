@@ -1,11 +1,9 @@
 -- What stops the reading of a file, and what shows the cause.
-use Rattle.std.specs.Prelude.{◌≡◌, ℕ, List, Option, Ok}
-use Rattle.dpi_lex.specs.Lexed.{Lexed}
+use Rattle.std.specs.Prelude.{◌≡◌, ℕ, List, Option}
 use Rattle.dpi_lex.specs.Place.{line_of, column_of}
 use Rattle.dpi_ports.specs.Told.{Contents}
-use Rattle.dpirun.specs.Answer.{Outcome, unread, refused, IsGood, IsRefusedAs}
-use Rattle.dpirun.specs.Command.{language_of}
-use Rattle.dpirun.specs.Faults.{code_bytes, lexed_as, IsRefusal}
+use Rattle.dpirun.specs.Answer.{Outcome, unread, refused, IsRefusedAs}
+use Rattle.dpirun.specs.Faults.{code_bytes, IsRefusal}
 use Rattle.dpirun.specs.declared.command.Language.{Language}
 use Rattle.dpirun.specs.declared.reading.ReadFault.{ReadFault}
 use Rattle.dpirun.specs.declared.reading.ReadFault.TheVariants.{Refused, Unread, NoMemory}
@@ -27,11 +25,6 @@ pub record IsOf (language : Language) (text : List ℕ) (r : Refusal) : Type 0 w
 -- the file is refused so
 abbrev pub IsOfFile : Option Contents → List ℕ → Refusal → Type 0
 IsOfFile told file r = IsRefusedAs told file r.line r.column r.code
-
--- the file has these tokens, and is accepted
-pub record IsFound (told : Option Contents) (file : List ℕ) (l : Lexed) : Type 0 where
-  pub good : IsGood told file l.text
-  pub lexed_is : lexed_as (language_of file) l.text ≡ Ok l.tokens
 
 -- what comes of a file that isn't accepted
 abbrev pub ComesOf : List ℕ → ReadFault → Outcome → Type 0

@@ -1,12 +1,16 @@
-//! The program `dpirun`: files of SystemVerilog and C, checked against the grammars of their
-//! languages, and one import of the Direct Programming Interface, from files to bytes.
+//! The program `dpirun`: files of SystemVerilog and C, checked against the grammars and the rules
+//! of their languages and against the rules of linking, and one import of the Direct Programming
+//! Interface, from files to bytes.
 //!
 //! Words, lines and statuses are those of `specs/Answer.antt`, which knows nothing of the code;
-//! which text is refused, and where, stands in `specs/Faults.antt`; how a call may end, and what
-//! shows the cause, in `specs/Program.antt`. A place is a line and a column from 1, columns in
-//! bytes.
+//! which text is refused by itself, and where, stands in `specs/Faults.antt`; which files are
+//! accepted by themselves, in `specs/Sources.antt`; which rule counts, in `specs/Rules.antt`; how a
+//! call may end, and what shows the cause, in `specs/Program.antt`. A place is a line and a column
+//! from 1, columns in bytes.
 #![tactic(auto)]
 
+#[cfg(test)]
+mod case_tests;
 mod command;
 mod delivery;
 mod form;
@@ -18,6 +22,10 @@ mod pair;
 mod program;
 mod reading;
 mod refusal;
+#[cfg(test)]
+mod rule_tests;
+mod rules;
+mod sources;
 #[cfg(test)]
 mod tests;
 

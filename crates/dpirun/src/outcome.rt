@@ -66,7 +66,7 @@ impl Outcome {
         Ok(Outcome::failed(alloc, status, err))
     }
 
-    /// Status 1, for a file that is refused: the fault line stands at the refusal's place.
+    /// Status 1, for a file that is refused by itself: the fault line stands at the refusal's place.
     pub fn refused(alloc: Global, file: &str, refusal: Refusal) -> Result<Outcome, NoMemory>
         ensures { IfOk result (λ o. shown o
             ≡ refused file.now refusal.line refusal.column (code_bytes refusal.code)) }
@@ -75,7 +75,19 @@ impl Outcome {
         Outcome::faulty(alloc, 1, file, place, refusal.code.bytes())
     }
 
-    /// Status 1, for files that are all accepted, and aren't of the form that runs: the fault line
+    /// Status 1, for a file that breaks a rule at a line and a column, both from 1.
+    pub fn broken(
+        alloc: Global,
+        file: &str,
+        place: (u32, u32),
+        rule: &str,
+    ) -> Result<Outcome, NoMemory>
+        ensures { IfOk result (λ o. shown o ≡ refused file.now place.0 place.1 rule.now) }
+    {
+        Outcome::faulty(alloc, 1, file, place, rule.as_bytes())
+    }
+
+    /// Status 1, for files that break no rule, and aren't of the form that runs: the fault line
     /// stands at the first byte of the first one.
     pub fn not_built(alloc: Global, file: &str) -> Result<Outcome, NoMemory>
         ensures { IfOk result (λ o. shown o ≡ not_built file.now) }

@@ -1,19 +1,30 @@
-//! The reading of a file.
+//! The reading of a file: its text, its tokens and its tree.
 
 ghost use Rattle.std.specs.Prelude.{◌≡◌, ◌≢◌, ◌≤◌, OnOk, IfOk, IfErr, IfSome, IsErrOf};
+ghost use Rattle.std.specs.String.{string_bytes};
+ghost use Rattle.dpi_grammar.specs.Faults.{IsParsed};
 ghost use Rattle.dpi_lex.specs.Lexed.{IsText};
 ghost use Rattle.dpi_lex.specs.Stretches as lex;
+ghost use Rattle.dpi_lex.specs.Words.{words_of};
 ghost use Rattle.dpi_ports.specs.Told.{HasRisen, Holds, HoldsMore};
-ghost use Rattle.dpirun.specs.Faults.{lexed_as, IsAccepted};
-ghost use Rattle.dpirun.specs.Refusals.{WhenRefused, IsOf, IsOfFile, IsFound};
+ghost use Rattle.sv_tree.specs.Items as sv_items;
+ghost use Rattle.c_tree.specs.File as c_file;
+ghost use Rattle.dpirun.specs.Faults.{lexed_as, most_levels};
+ghost use Rattle.dpirun.specs.Readings.{AddsSv, AddsC, Adds};
+ghost use Rattle.dpirun.specs.Refusals.{WhenRefused, IsOf, IsOfFile};
+ghost use Rattle.dpirun.specs.Shown.{source_shown, sources_shown};
+ghost use Rattle.dpirun.specs.Sources.{IsSource};
 ghost use Rattle.dpirun.specs.declared.command.Language.TheVariants as languages;
 ghost use Rattle.dpirun.specs.declared.reading.ReadFault.TheVariants as faults;
 
 use crate::command::{Language, language_of};
 use crate::refusal::{Code, Refusal};
+use crate::sources::{Source, Sources};
+use c_tree::CFile;
 use dpi_lex::{LexFault, Tokens, c_tokens, sv_tokens};
 use dpi_ports::{FetchFault, Files, NoMemory};
 use std::alloc::Global;
+use sv_tree::SvFile;
 use thiserror::Error;
 
 /// Why a file isn't accepted.
@@ -84,16 +95,16 @@ fn lexed(alloc: Global, language: Language, text: &[u8]) -> Result<Tokens, ReadF
     Err(ReadFault::Refused(Refusal::at(text, place, code)))
 }
 
-// that the tokens of a text are a SystemVerilog file's
-fn sv_parsed(alloc: Global, tokens: &Tokens) -> Result<(), ReadFault>
+// the tree of a SystemVerilog file with these tokens
+fn sv_parsed(alloc: Global, tokens: &Tokens) -> Result<SvFile, ReadFault>
     requires text { IsText tokens.now.text }
     requires tokens { lexed_as languages.SystemVerilog tokens.now.text ≡ Ok tokens.now.tokens }
-    ensures ok { OnOk result (IsAccepted languages.SystemVerilog tokens.now.text) }
+    ensures ok { IfOk result (λ tree. IsParsed sv_items.file_told most_levels (words_of tokens.now) tree) }
     ensures refused { IfErr result (WhenRefused (IsOf languages.SystemVerilog tokens.now.text)) }
     ensures read { result ≢ Err faults.Unread }
 {
     let (code, token) = match sv_parse::parse(alloc, tokens) {
-        Ok(_) => return Ok(()),
+        Ok(tree) => return Ok(tree),
         Err(sv_parse::ParseFault::Syntax { token }) => (Code::Syntax, token),
         Err(sv_parse::ParseFault::TooDeep { token }) => (Code::TooDeep, token),
         Err(sv_parse::ParseFault::NoMemory) => return Err(ReadFault::NoMemory),
@@ -101,17 +112,17 @@ fn sv_parsed(alloc: Global, tokens: &Tokens) -> Result<(), ReadFault>
     Err(ReadFault::Refused(Refusal::at_token(tokens, token, code)))
 }
 
-// that they are a C file's
+// the tree of a C file with these tokens
 #[tactic(auto, using(crate::proofs::Readings::refused_within, crate::proofs::Readings::too_deep_within))]
-fn c_parsed(alloc: Global, tokens: &Tokens) -> Result<(), ReadFault>
+fn c_parsed(alloc: Global, tokens: &Tokens) -> Result<CFile, ReadFault>
     requires text { IsText tokens.now.text }
     requires tokens { lexed_as languages.C tokens.now.text ≡ Ok tokens.now.tokens }
-    ensures ok { OnOk result (IsAccepted languages.C tokens.now.text) }
+    ensures ok { IfOk result (λ tree. IsParsed c_file.file_told most_levels (words_of tokens.now) tree) }
     ensures refused { IfErr result (WhenRefused (IsOf languages.C tokens.now.text)) }
     ensures read { result ≢ Err faults.Unread }
 {
     let refusal = match c_parse::parse(alloc, tokens) {
-        Ok(_) => return Ok(()),
+        Ok(tree) => return Ok(tree),
         Err(c_parse::ParseFault::Syntax { token }) => {
             Refusal::at_token(tokens, token, Code::Syntax)
         }
@@ -123,52 +134,90 @@ fn c_parsed(alloc: Global, tokens: &Tokens) -> Result<(), ReadFault>
     Err(ReadFault::Refused(refusal))
 }
 
-// that they are a file's of the language
-fn parsed(alloc: Global, language: Language, tokens: &Tokens) -> Result<(), ReadFault>
-    requires text { IsText tokens.now.text }
-    requires tokens { lexed_as language tokens.now.text ≡ Ok tokens.now.tokens }
-    ensures ok { OnOk result (IsAccepted language tokens.now.text) }
-    ensures refused { IfErr result (WhenRefused (IsOf language tokens.now.text)) }
+// adds a SystemVerilog file with its tree
+fn add_sv(alloc: Global, source: Source, sources: &mut Sources) -> Result<(), ReadFault>
+    requires text { IsText source.tokens.text }
+    requires tokens { lexed_as languages.SystemVerilog source.tokens.text ≡ Ok source.tokens.tokens }
+    ensures ok { OnOk result (AddsSv (source_shown source) (sources_shown sources.old) (sources_shown sources.new)) }
+    ensures refused { IfErr result (WhenRefused (IsOf languages.SystemVerilog source.tokens.text)) }
     ensures read { result ≢ Err faults.Unread }
 {
-    match language {
-        Language::SystemVerilog => sv_parsed(alloc, tokens),
-        Language::C => c_parsed(alloc, tokens),
-    }
+    let tree = sv_parsed(alloc, &source.tokens)?;
+    sources.add_sv(source, tree)?;
+    Ok(())
 }
 
-// the tokens of a text that is accepted
-fn checked(alloc: Global, language: Language, text: &[u8]) -> Result<Tokens, ReadFault>
-    requires { IsText text.now }
-    ensures text { IfOk result (λ l. l.text ≡ text.now) }
-    ensures tokens { IfOk result (λ l. lexed_as language text.now ≡ Ok l.tokens) }
-    ensures ok { OnOk result (IsAccepted language text.now) }
-    ensures refused { IfErr result (WhenRefused (IsOf language text.now)) }
+// adds a C file with its tree
+fn add_c(alloc: Global, source: Source, sources: &mut Sources) -> Result<(), ReadFault>
+    requires text { IsText source.tokens.text }
+    requires tokens { lexed_as languages.C source.tokens.text ≡ Ok source.tokens.tokens }
+    ensures ok { OnOk result (AddsC (source_shown source) (sources_shown sources.old) (sources_shown sources.new)) }
+    ensures refused { IfErr result (WhenRefused (IsOf languages.C source.tokens.text)) }
     ensures read { result ≢ Err faults.Unread }
 {
-    let tokens = lexed(alloc, language, text)?;
-    parsed(alloc, language, &tokens)?;
-    Ok(tokens)
+    let tree = c_parsed(alloc, &source.tokens)?;
+    sources.add_c(source, tree)?;
+    Ok(())
 }
 
-/// Fetches a file and reads its tokens, which are those of a file of its language's grammar.
-///
-/// `ReadFault::Refused` comes exactly where the file is too long, has a place where no token
-/// begins, or has a token that its grammar refuses, and `ReadFault::Unread` only where the fetch
-/// failed, which was counted.
-pub fn read<F: Files>(alloc: Global, files: &mut F, name: &str) -> Result<Tokens, ReadFault>
-    ensures ok { IfOk result (IsFound (F.told files.old) name.now) }
+// the text of a file, or why there is none
+fn text_of<F: Files>(alloc: Global, files: &mut F, name: &str) -> Result<Vec<u8>, ReadFault>
+    ensures ok { IfOk result (λ text. Holds (F.told files.old) name.now text.items) }
+    ensures within { IfOk result (λ text. IsText text.items) }
     ensures refused { IfErr result (WhenRefused (IsOfFile (F.told files.old) name.now)) }
     ensures unread { IsErrOf result ReadFault.Unread → HasRisen (F.faults files.old) (F.faults files.new) }
     ensures named { IsErrOf result ReadFault.Unread → IfSome (F.last_fault files.new) (λ n. n ≡ name.now) }
     ensures kept { F.told files.new ≡ F.told files.old }
     ensures later { F.faults files.old ≤ F.faults files.new }
 {
-    let text = match fetched(alloc, files, name) {
-        Ok(text) => text,
-        Err(FetchFault::Failed) => return Err(ReadFault::Unread),
-        Err(FetchFault::TooLong) => return Err(ReadFault::Refused(Refusal::too_long())),
-        Err(FetchFault::NoMemory) => return Err(ReadFault::NoMemory),
+    match fetched(alloc, files, name) {
+        Ok(text) => Ok(text),
+        Err(FetchFault::Failed) => Err(ReadFault::Unread),
+        Err(FetchFault::TooLong) => Err(ReadFault::Refused(Refusal::too_long())),
+        Err(FetchFault::NoMemory) => Err(ReadFault::NoMemory),
+    }
+}
+
+// fetches a file and reads its tokens
+fn read<F: Files>(alloc: Global, files: &mut F, name: &str) -> Result<Source, ReadFault>
+    ensures ok { IfOk result (λ s. IsSource (F.told files.old) (source_shown s)) }
+    ensures name { IfOk result (λ s. string_bytes s.name ≡ name.now) }
+    ensures refused { IfErr result (WhenRefused (IsOfFile (F.told files.old) name.now)) }
+    ensures unread { IsErrOf result ReadFault.Unread → HasRisen (F.faults files.old) (F.faults files.new) }
+    ensures named { IsErrOf result ReadFault.Unread → IfSome (F.last_fault files.new) (λ n. n ≡ name.now) }
+    ensures kept { F.told files.new ≡ F.told files.old }
+    ensures later { F.faults files.old ≤ F.faults files.new }
+{
+    let text = text_of(alloc, files, name)?;
+    let tokens = lexed(alloc, language_of(name), &text)?;
+    let Ok(name) = String::from_str(alloc, name) else {
+        return Err(ReadFault::NoMemory);
     };
-    checked(alloc, language_of(name), &text)
+    Ok(Source { name, tokens })
+}
+
+/// Fetches a file, reads its tokens, which are those of a file of its language's grammar, and adds
+/// it with its tree.
+///
+/// `ReadFault::Refused` comes exactly where the file is too long, has a place where no token
+/// begins, or has a token that its grammar refuses, and `ReadFault::Unread` only where the fetch
+/// failed, which was counted. After a fault the sources are of no use.
+pub fn add<F: Files>(
+    alloc: Global,
+    files: &mut F,
+    name: &str,
+    sources: &mut Sources,
+) -> Result<(), ReadFault>
+    ensures ok { OnOk result (Adds (F.told files.old) name.now (sources_shown sources.old) (sources_shown sources.new)) }
+    ensures refused { IfErr result (WhenRefused (IsOfFile (F.told files.old) name.now)) }
+    ensures unread { IsErrOf result ReadFault.Unread → HasRisen (F.faults files.old) (F.faults files.new) }
+    ensures named { IsErrOf result ReadFault.Unread → IfSome (F.last_fault files.new) (λ n. n ≡ name.now) }
+    ensures kept { F.told files.new ≡ F.told files.old }
+    ensures later { F.faults files.old ≤ F.faults files.new }
+{
+    let source = read(alloc, files, name)?;
+    match language_of(name) {
+        Language::SystemVerilog => add_sv(alloc, source, sources),
+        Language::C => add_c(alloc, source, sources),
+    }
 }

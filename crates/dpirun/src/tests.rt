@@ -1,6 +1,6 @@
 //! Words and files, and what the program answers to them, with values worked out by hand.
 
-use crate::program::dpirun;
+use crate::program::{Answer, dpirun};
 use dpi_ports::{MemoryFiles, MemorySink, PlainLedger, Steps};
 use std::alloc::Global;
 use std::process::Abort;
@@ -17,7 +17,7 @@ const C: &str = "int add(int a, int b) { return a + b; }\n";
 /// A command line; the fetches and writes that fail, numbered from 1, and the most bytes that one
 /// write takes.
 #[derive(Clone, Copy)]
-struct Setting {
+pub(crate) struct Setting {
     words: &'static [&'static str],
     fetches: &'static [u64],
     outs: &'static [u64],
@@ -28,7 +28,7 @@ struct Setting {
 /// What came of it: status, standard output, standard error.
 type Came = (u8, &'static str, &'static str);
 
-const ADD: Setting = Setting {
+pub(crate) const ADD: Setting = Setting {
     words: &["m.sv", "m.c"],
     fetches: &[],
     outs: &[],
@@ -36,7 +36,7 @@ const ADD: Setting = Setting {
     most: None,
 };
 
-fn texts(alloc: Global, words: &[&str]) -> Result<Vec<String>, Fail> {
+pub(crate) fn texts(alloc: Global, words: &[&str]) -> Result<Vec<String>, Fail> {
     let mut texts = Vec::new(alloc);
     for word in words {
         texts.push(String::from_str(alloc, word)?)?;
@@ -62,6 +62,18 @@ fn check(
     check_words(rt, alloc, &words, setting, sv, c, came)
 }
 
+// what comes of these words is status 1 and this line
+pub(crate) fn check_line(
+    rt: &impl Abort,
+    alloc: Global,
+    words: &'static [&'static str],
+    sv: Option<&str>,
+    c: Option<&str>,
+    line: &'static str,
+) -> Result<(), Fail> {
+    check(rt, alloc, Setting { words, ..ADD }, sv, c, (1, "", line))
+}
+
 // the same with these words in place of the setting's
 fn check_words(
     rt: &impl Abort,
@@ -74,21 +86,12 @@ fn check_words(
 ) -> Result<(), Fail> {
     let mut files = MemoryFiles::new(alloc, Vec::from_slice(alloc, setting.fetches)?);
     if let Some(text) = sv {
-        files.add(
-            String::from_str(alloc, "m.sv")?,
-            Vec::from_slice(alloc, text.as_bytes())?,
-        )?;
+        add_file(alloc, &mut files, "m.sv", text)?;
     }
     if let Some(text) = c {
-        files.add(
-            String::from_str(alloc, "m.c")?,
-            Vec::from_slice(alloc, text.as_bytes())?,
-        )?;
+        add_file(alloc, &mut files, "m.c", text)?;
     }
-    let mut out = sink(alloc, setting.outs, setting.most)?;
-    let mut err = sink(alloc, setting.errs, setting.most)?;
-    let mut steps = Steps::new(PlainLedger::new());
-    let answer = dpirun(alloc, words, &mut files, &mut out, &mut err, &mut steps);
+    let (answer, out, err) = answer_of(alloc, words, setting, files)?;
     let (status, printed, explained) = came;
     assert_eq!(rt; answer.status, status, "{:?} {sv:?} {c:?}", setting.words);
     assert_eq!(rt;
@@ -104,6 +107,28 @@ fn check_words(
         setting.words
     );
     Ok(())
+}
+
+fn add_file(alloc: Global, files: &mut MemoryFiles, name: &str, text: &str) -> Result<(), Fail> {
+    files.add(
+        String::from_str(alloc, name)?,
+        Vec::from_slice(alloc, text.as_bytes())?,
+    )?;
+    Ok(())
+}
+
+// the answer to these words and files, and both sinks
+pub(crate) fn answer_of(
+    alloc: Global,
+    words: &Vec<String>,
+    setting: Setting,
+    mut files: MemoryFiles,
+) -> Result<(Answer, MemorySink, MemorySink), Fail> {
+    let mut out = sink(alloc, setting.outs, setting.most)?;
+    let mut err = sink(alloc, setting.errs, setting.most)?;
+    let mut steps = Steps::new(PlainLedger::new());
+    let answer = dpirun(alloc, words, &mut files, &mut out, &mut err, &mut steps);
+    Ok((answer, out, err))
 }
 
 /// Words that are no command: there are none, or one of them doesn't end in `.sv` or `.c`, or begins
@@ -142,15 +167,7 @@ fn check_many(rt: &impl Abort, alloc: Global, count: usize, came: Came) -> Resul
     for _ in 0..count {
         words.push(String::from_str(alloc, "m.sv")?)?;
     }
-    check_words(
-        rt,
-        alloc,
-        &words,
-        ADD,
-        Some("module m; endmodule"),
-        None,
-        came,
-    )
+    check_words(rt, alloc, &words, ADD, Some(""), None, came)
 }
 
 #[test]
@@ -213,31 +230,30 @@ fn a_sum_is_printed_or_traps_at_its_plus(rt: HostRuntime) -> Result<(), Fail> {
     Ok(())
 }
 
-/// SystemVerilog files that the grammar has and that aren't of the form: nothing, a module alone, a
-/// second module, another function in the call, one name for both formals, and names that aren't
-/// free.
+/// SystemVerilog files that break no rule and aren't of the form: nothing, a module alone, a second
+/// module, another actual, another format, and names that aren't free.
 const OTHER_SV: [&str; 7] = [
     "",
     "module m; endmodule",
     "module m; import \"DPI-C\" function int add(input int a, input int b); initial $display(\"%0d\", add(2,3)); endmodule module n; endmodule",
-    "module m; import \"DPI-C\" function int add(input int a, input int b); initial $display(\"%0d\", sum(2,3)); endmodule",
-    "module m; import \"DPI-C\" function int add(input int a, input int a); initial $display(\"%0d\", add(2,3)); endmodule",
-    "module m; import \"DPI-C\" function int svLeft(input int a, input int b); initial $display(\"%0d\", svLeft(2,3)); endmodule",
+    "module m; import \"DPI-C\" function int add(input int a, input int b); initial $display(\"%0d\", add(2,-3)); endmodule",
+    "module m; import \"DPI-C\" function int add(input int a, input int b); initial $display(\"%d\", add(2,3)); endmodule",
+    "module svLeft; import \"DPI-C\" function int add(input int a, input int b); initial $display(\"%0d\", add(2,3)); endmodule",
     "module m; import \"DPI-C\" function int add(input int printf, input int b); initial $display(\"%0d\", add(2,3)); endmodule",
 ];
 
-/// The same of C: nothing, another function, one name for both parameters, an operand that is no
-/// parameter, another operator, a result of another type.
+/// The same of C: another operator, a number for an operand, parentheses, a second function, a
+/// local, and a name that isn't free.
 const OTHER_C: [&str; 6] = [
-    "",
-    "int sum(int a, int b) { return a + b; }",
-    "int add(int a, int a) { return a + a; }",
-    "int add(int a, int b) { return a + c; }",
     "int add(int a, int b) { return a * b; }",
-    "short add(int a, int b) { return a + b; }",
+    "int add(int a, int b) { return a + 1; }",
+    "int add(int a, int b) { return (a + b); }",
+    "int add(int a, int b) { return a + b; } int one(void) { return 1; }",
+    "int add(int a, int b) { int c = a; return b + c; }",
+    "int add(int a, int module) { return a + module; }",
 ];
 
-/// Files that are all accepted, and aren't one of SystemVerilog and then one of C.
+/// Files without a token, which aren't one of SystemVerilog and then one of C.
 const OTHER_WORDS: [(&[&str], &str); 5] = [
     (&["m.sv"], "m.sv:1:1: NotBuilt\n"),
     (&["m.c"], "m.c:1:1: NotBuilt\n"),
@@ -273,10 +289,99 @@ fn files_of_another_form_are_not_built(rt: HostRuntime) -> Result<(), Fail> {
             &rt,
             rt.alloc(),
             Setting { words, ..ADD },
-            Some(SV),
-            Some(C),
+            Some(""),
+            Some(""),
             (1, "", line),
         )?;
+    }
+    Ok(())
+}
+
+/// The files in the order of the words, and the line: `break` outside a loop is S20 and C15 at the
+/// keyword, a closing label that isn't the opened name S7 at the label, and a `return` without a
+/// value in a function that gives one C16 at the keyword. S rules come before C rules, and in a file
+/// the first token counts.
+const BROKEN: [(&[(&str, &str)], &str); 9] = [
+    (
+        &[
+            ("m.sv", "module m;\ninitial begin\n  break;\nend\nendmodule"),
+            ("m.c", ""),
+        ],
+        "m.sv:3:3: S20\n",
+    ),
+    (
+        &[("m.sv", ""), ("m.c", "void f(void) {\n  break;\n}")],
+        "m.c:2:3: C15\n",
+    ),
+    (
+        &[
+            ("m.sv", "module m; initial break; endmodule"),
+            ("m.c", "void f(void) { break; }"),
+        ],
+        "m.sv:1:19: S20\n",
+    ),
+    (
+        &[
+            ("m.c", "void f(void) { break; }"),
+            ("m.sv", "module m; initial break; endmodule"),
+        ],
+        "m.sv:1:19: S20\n",
+    ),
+    (
+        &[
+            ("m.c", "void f(void) { break; }"),
+            ("m.sv", "module m; endmodule"),
+        ],
+        "m.c:1:16: C15\n",
+    ),
+    (
+        &[
+            ("a.sv", "module a; endmodule : a"),
+            ("b.sv", "module b; endmodule : a"),
+        ],
+        "b.sv:1:23: S7\n",
+    ),
+    (
+        &[
+            ("a.c", "int f(void) { return 1; }"),
+            ("a.sv", "module a; endmodule"),
+            ("b.c", "int g(void) { return; }"),
+        ],
+        "b.c:1:15: C16\n",
+    ),
+    (
+        &[
+            ("a.sv", "module a; initial break; endmodule : b"),
+            ("b.sv", "module b; endmodule : a"),
+        ],
+        "a.sv:1:19: S20\n",
+    ),
+    (
+        &[
+            (
+                "m.sv",
+                "module m; import \"DPI-C\" function int add(input int a, input int b); \
+                initial $display(\"%0d\", add(2,3)); endmodule : add",
+            ),
+            ("m.c", C),
+        ],
+        "m.sv:1:117: S7\n",
+    ),
+];
+
+#[test]
+fn the_first_broken_rule_is_named_where_it_is_broken(rt: HostRuntime) -> Result<(), Fail> {
+    for (texts, line) in BROKEN {
+        let mut words = Vec::new(rt.alloc());
+        let mut files = MemoryFiles::new(rt.alloc(), Vec::new(rt.alloc()));
+        for (name, text) in texts {
+            words.push(String::from_str(rt.alloc(), name)?)?;
+            add_file(rt.alloc(), &mut files, name, text)?;
+        }
+        let (answer, out, err) = answer_of(rt.alloc(), &words, ADD, files)?;
+        assert_eq!(rt; answer.status, 1, "{texts:?}");
+        assert_eq!(rt; out.bytes().len(), 0, "{texts:?}");
+        assert_eq!(rt; err.bytes(), line.as_bytes(), "{texts:?}");
     }
     Ok(())
 }
@@ -364,18 +469,18 @@ fn nested(alloc: Global, before: &str, depth: usize, after: &str) -> Result<Stri
     Ok(text)
 }
 
-/// How many parentheses, and what comes of them behind the column 22 of the SystemVerilog file and
+/// How many parentheses, and what comes of them behind the column 18 of the SystemVerilog file and
 /// 8 of the C file: the one that opens level 25 is refused.
 const NESTED: [(usize, &str, &str); 3] = [
     (24, "m.sv:1:1: NotBuilt\n", "m.sv:1:1: NotBuilt\n"),
-    (25, "m.sv:1:47: TooDeep\n", "m.c:1:33: TooDeep\n"),
-    (26, "m.sv:1:47: TooDeep\n", "m.c:1:33: TooDeep\n"),
+    (25, "m.sv:1:43: TooDeep\n", "m.c:1:33: TooDeep\n"),
+    (26, "m.sv:1:43: TooDeep\n", "m.c:1:33: TooDeep\n"),
 ];
 
 #[test]
 fn level_25_is_too_deep(rt: HostRuntime) -> Result<(), Fail> {
     for (depth, of_sv, of_c) in NESTED {
-        let sv = nested(rt.alloc(), "module m; initial a = ", depth, "; endmodule")?;
+        let sv = nested(rt.alloc(), "module m; int a = ", depth, "; endmodule")?;
         check(
             &rt,
             rt.alloc(),
@@ -389,7 +494,7 @@ fn level_25_is_too_deep(rt: HostRuntime) -> Result<(), Fail> {
             &rt,
             rt.alloc(),
             ADD,
-            Some(SV),
+            Some(""),
             Some(c.as_str()),
             (1, "", of_c),
         )?;

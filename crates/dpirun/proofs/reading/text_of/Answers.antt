@@ -2,7 +2,7 @@ use Rattle.std.proofs.Common.{Err, ap, subst, sym}
 use Rattle.dpirun.specs.Answer.{IsRefusedAs}
 use Rattle.dpirun.specs.declared.refusal.Refusal.{Refusal}
 use Rattle.dpirun.proofs.Readings.{too_long_is}
-use Rattle.dpirun.proofs.reading.read.Goals as goal
+use Rattle.dpirun.proofs.reading.text_of.Goals as goal
 
 pub returns-in-Err-TooLong-clause-refused : goal.returns-in-Err-TooLong-clause-refused
 returns-in-Err-TooLong-clause-refused g c =
