@@ -1,0 +1,1 @@
+void mix(svBitVecVal *words) { words[0] = 0; }
