@@ -8,7 +8,12 @@ use std::process::Abort;
 use std::test::Fail;
 
 /// SystemVerilog files, each alone, with the line that the program prints of it.
-const SV_CASES: [(&str, &str); 31] = [
+const SV_CASES: [(&str, &str); 33] = [
+    ("module m; int w[1][1][1][1]; endmodule", "m.sv:1:25: S8\n"),
+    (
+        "module m; int w[1][1][1]; endmodule",
+        "m.sv:1:1: NotBuilt\n",
+    ),
     (
         "module m; int a, b; logic [7:0] v; int w[4]; string s; chandle c; initial a = s + \
          y; endmodule",
@@ -142,7 +147,8 @@ const SV_CASES: [(&str, &str); 31] = [
 ];
 
 /// The same of C.
-const C_CASES: [(&str, &str); 26] = [
+const C_CASES: [(&str, &str); 27] = [
+    ("int w[65537];", "m.c:1:7: C4\n"),
     ("int f(void) { return 1 = y; }", "m.c:1:26: C2\n"),
     ("int f(int *p) { return p * y; }", "m.c:1:28: C2\n"),
     ("svScope f(void) { return (svScope)y; }", "m.c:1:35: C2\n"),
