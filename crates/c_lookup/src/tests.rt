@@ -95,6 +95,7 @@ fn an_extern_object_is_what_another_file_defines(rt: HostRuntime) -> Result<(), 
         life: Life::File,
     };
     let facts = told(alloc, &[CFact::Name(2, CMeant::Object(2))])?;
+    assert!(rt; facts.len() <= 1000);
     let lookup = CLookup::of(alloc, &files, &facts, &[], &[object])?;
     assert_eq!(rt; lookup.meaning(0, 2), Some(CMeaning::Object(0)));
     assert_eq!(rt; lookup.meaning(0, 1), None);
@@ -116,6 +117,7 @@ fn a_function_has_one_number_at_each_prototype(rt: HostRuntime) -> Result<(), No
         has_body: false,
     })?;
     let facts = told(alloc, &[CFact::Name(1, CMeant::Function(1))])?;
+    assert!(rt; facts.len() <= 1000);
     let lookup = CLookup::of(alloc, &files, &facts, &functions, &[])?;
     assert_eq!(rt; lookup.meaning(0, 1), Some(CMeaning::Function(0)));
     Ok(())
@@ -152,6 +154,7 @@ fn a_type_is_found_at_the_first_token(rt: HostRuntime) -> Result<(), NoMemory> {
     let alloc = rt.alloc();
     let int = Type::plain(CBase::Int);
     let facts = told(alloc, &[CFact::Type(7, int)])?;
+    assert!(rt; facts.len() <= 1000);
     let lookup = CLookup::of(alloc, &[], &facts, &[], &[])?;
     assert_eq!(rt; lookup.type_of(0, &one(alloc, 7)?), Some(int));
     assert_eq!(rt; lookup.type_of(0, &one(alloc, 8)?), None);
