@@ -18,6 +18,3 @@ mod parts;
 
 pub use expressions::{expr, exprs};
 pub use front::begins_expr;
-
-#[cfg(test)]
-mod tests;

@@ -27,6 +27,3 @@ mod variables;
 pub use fault::ParseFault;
 pub use law::{answer_is_one, tree_is_one};
 pub use parser::parse;
-
-#[cfg(test)]
-mod tests;

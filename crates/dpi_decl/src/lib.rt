@@ -14,8 +14,6 @@ mod fault;
 mod functions;
 mod linked;
 mod linking;
-#[cfg(test)]
-mod tests;
 
 pub use exports::{ExportName, exported_names, names_at, number_named};
 pub use fault::LinkFault;

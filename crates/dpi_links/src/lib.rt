@@ -20,8 +20,6 @@ mod exports;
 mod functions;
 mod imports;
 mod link;
-#[cfg(test)]
-mod tests;
 
 pub use functions::{Bodies, shared_bodies};
 pub use link::{check_c, check_sv};

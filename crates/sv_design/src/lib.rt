@@ -20,8 +20,6 @@ mod numbers;
 mod places;
 mod statements;
 mod subroutines;
-#[cfg(test)]
-mod tests;
 
 pub use declarations::{Declaration, Owner};
 pub use exports::{Export, exports_of};

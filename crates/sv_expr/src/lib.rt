@@ -19,6 +19,3 @@ mod tails;
 pub use behind::{actuals, flat_call, lvalue};
 pub use expressions::{expr, exprs, more_exprs, selects};
 pub use front::begins_expr;
-
-#[cfg(test)]
-mod tests;

@@ -22,6 +22,3 @@ mod parser;
 
 pub use laws::{answer_is_one, files_are_unambiguous};
 pub use parser::{ParseFault, parse};
-
-#[cfg(test)]
-mod tests;

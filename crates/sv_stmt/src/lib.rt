@@ -22,6 +22,3 @@ mod tasks;
 pub use declarators::{declarations, variables};
 pub use front::begins_statement;
 pub use nested::{statement, statements};
-
-#[cfg(test)]
-mod tests;

@@ -1,7 +1,7 @@
 //! Expressions: how many tokens each takes, or which one stops the parser, and their trees.
 
-use crate::{begins_expr, expr, exprs};
 use c_cursor::Cursor;
+use c_expr::{begins_expr, expr, exprs};
 use c_tree::{AssignOperator, Prefix, Primary, Suffix, UnaryOperator};
 use dpi_grammar::Stop;
 use dpi_lex::c_tokens;

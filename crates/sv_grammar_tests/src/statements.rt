@@ -1,12 +1,11 @@
 //! Texts with what is read of them, by the rules of the grammar and with tokens counted by hand.
 
-use crate::nested::boxed_statement;
-use crate::{declarations, variables};
 use dpi_grammar::Stop;
 use dpi_lex::{Tokens, sv_tokens};
 use std::alloc::Global;
 use std::test::Fail;
 use sv_cursor::Cursor;
+use sv_stmt::{declarations, statement, variables};
 use sv_tree::Stmt;
 
 /// Statements, and the numbers of tokens behind which a shorter one could end.
@@ -161,7 +160,7 @@ const FLAT: [&[u8]; 9] = [
 /// Where a statement ends, at that many levels.
 fn end_of(alloc: Global, tokens: &Tokens, depth: u32) -> Result<u32, Stop> {
     let mut cursor = Cursor::new(tokens);
-    boxed_statement(alloc, &mut cursor, depth)?;
+    statement(alloc, &mut cursor, depth)?;
     Ok(cursor.place())
 }
 
@@ -350,8 +349,8 @@ fn is_if_within_if(read: &Stmt) -> bool {
 fn an_else_belongs_to_the_nearest_if(rt: HostRuntime) -> Result<(), Fail> {
     let tokens = sv_tokens(rt.alloc(), b"if (a) if (b) ; else ;")?;
     let mut cursor = Cursor::new(&tokens);
-    let inner_has_it = match boxed_statement(rt.alloc(), &mut cursor, 24) {
-        Ok(read) => is_if_within_if(read.get()),
+    let inner_has_it = match statement(rt.alloc(), &mut cursor, 24) {
+        Ok(read) => is_if_within_if(&read),
         Err(_stop) => false,
     };
     assert!(rt; inner_has_it);

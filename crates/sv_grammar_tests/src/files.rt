@@ -1,10 +1,10 @@
 //! Texts with what the grammar says of them: tokens are counted by hand, from 0.
 
-use crate::{ParseFault, files_are_unambiguous, parse};
 use dpi_lex::sv_tokens;
 use std::alloc::Global;
 use std::process::Abort;
 use std::test::Fail;
+use sv_parse::{ParseFault, files_are_unambiguous, parse};
 use sv_tree::{ImportKind, Item, Outcome, Property, SvFile};
 
 /// Items of a module, of which each needs all its tokens.

@@ -1,6 +1,5 @@
 //! Expressions and what holds them: how many tokens each takes, or which one stops the parser.
 
-use crate::{actuals, expr, exprs, flat_call, lvalue};
 use dpi_grammar::Stop;
 use dpi_lex::sv_tokens;
 use std::alloc::Global;
@@ -8,6 +7,7 @@ use std::process::Abort;
 use std::rt::HostRuntime;
 use std::test::Fail;
 use sv_cursor::Cursor;
+use sv_expr::{actuals, expr, exprs, flat_call, lvalue};
 
 #[derive(Clone, Copy)]
 enum Part {

@@ -1,10 +1,11 @@
 //! A module with an import and an export, linked with a C file by hand (IEEE 1800-2017, 35.4, 35.5).
-use crate::{LinkFault, link};
 use c_check::program;
 use c_tree::{BaseWord, Block, Body, CFile, CType, External, Params};
+use dpi_decl::{LinkFault, Linked, link};
 use dpi_rules::{CheckFault, Violation};
 use sqlite_items::Items;
 use std::alloc::{AllocError, Global};
+use std::process::Abort;
 use std::rt::HostRuntime;
 use sv_check::elaborate;
 use sv_tree::{Export, Function, Import, ImportKind, Item, Module, Name, Outcome, SvFile, Text};
@@ -112,21 +113,38 @@ fn block(alloc: Global) -> Body {
     })
 }
 
-#[test]
-fn linked_files_tell_what_calls_what(rt: HostRuntime) -> Result<(), CheckFault> {
-    let alloc = rt.alloc();
+/// The module, linked with a body of `f`.
+fn linked(rt: &impl Abort, alloc: Global) -> Result<Linked, CheckFault> {
     let mut svs = Vec::new(alloc);
     svs.push(modules(alloc)?)?;
     let mut cs = Vec::new(alloc);
     cs.push(functions(alloc, block(alloc))?)?;
-    let linked = link(alloc, elaborate(alloc, svs)?, program(alloc, cs)?);
-    let Ok(linked) = linked else {
-        panic!(rt; "the files break no rule");
-    };
+    match link(alloc, elaborate(alloc, svs)?, program(alloc, cs)?) {
+        Ok(linked) => Ok(linked),
+        Err(fault) => panic!(rt; "{fault:?}"),
+    }
+}
+
+#[test]
+fn an_import_calls_the_body_of_its_name(rt: HostRuntime) -> Result<(), CheckFault> {
+    let linked = linked(&rt, rt.alloc())?;
     assert!(rt; linked.design().imports() > 0);
     assert_eq!(rt; linked.function_of(0), 0);
+    Ok(())
+}
+
+#[test]
+fn a_scope_has_the_exports_of_its_module(rt: HostRuntime) -> Result<(), CheckFault> {
+    let linked = linked(&rt, rt.alloc())?;
     assert!(rt; linked.design().scopes() > 0);
     assert_eq!(rt; linked.export_in(0, b"g"), Some(0));
+    Ok(())
+}
+
+#[test]
+fn a_scope_has_no_other_export(rt: HostRuntime) -> Result<(), CheckFault> {
+    let linked = linked(&rt, rt.alloc())?;
+    assert!(rt; linked.design().scopes() > 0);
     assert_eq!(rt; linked.export_in(0, b"f"), None);
     Ok(())
 }

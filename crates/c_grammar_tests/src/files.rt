@@ -1,7 +1,7 @@
 //! Texts of C with what the grammar says of them, worked out by hand: a token of a fault is counted
 //! from 0.
 
-use crate::{ParseFault, parse};
+use c_parse::{ParseFault, parse};
 use dpi_lex::{Tokens, c_tokens};
 use std::alloc::Global;
 use std::process::Abort;

@@ -1,6 +1,6 @@
 //! One import, with a C file that has its body and one that hasn't (IEEE 1800-2017, 35.4).
-use crate::{check_c, check_sv};
 use c_tree::{BaseWord, Block, Body, CFile, CType, External, Function, Params};
+use dpi_links::{check_c, check_sv};
 use dpi_rules::Violation;
 use sqlite_items::Items;
 use std::alloc::{AllocError, Global};

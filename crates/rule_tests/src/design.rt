@@ -1,12 +1,12 @@
 //! `module m; function automatic string f; endfunction export "DPI-C" function f;
 //! initial begin : b end endmodule`, whose trees are built by hand.
-use crate::{
-    Declaration, Owner, Place, blocks_of, declarations_of, exports_of, initials_of, subroutines_of,
-};
 use dpi_ports::NoMemory;
 use sqlite_items::Items;
 use std::alloc::{AllocError, Global};
 use std::rt::HostRuntime;
+use sv_design::{
+    Declaration, Owner, Place, blocks_of, declarations_of, exports_of, initials_of, subroutines_of,
+};
 use sv_shapes::VarKind;
 use sv_tree::{
     Block, Body, DataType, Export, Function, Item, Label, Life, Lifetime, Module, Name, Outcome,
