@@ -11,8 +11,6 @@ mod expressions;
 mod files;
 mod refusals;
 mod statements;
-#[cfg(test)]
-mod tests;
 mod variables;
 
 pub use files::note_calls;

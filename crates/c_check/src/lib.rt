@@ -15,8 +15,6 @@ mod facts;
 mod files;
 mod lists;
 mod programs;
-#[cfg(test)]
-mod tests;
 
 pub use elaboration::program;
 pub use files::check;

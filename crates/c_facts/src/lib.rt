@@ -19,8 +19,6 @@
 mod expressions;
 mod facts;
 mod names;
-#[cfg(test)]
-mod tests;
 mod widths;
 
 pub use expressions::add_expr;

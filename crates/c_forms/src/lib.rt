@@ -14,6 +14,3 @@ mod statements;
 
 pub use around::Around;
 pub use files::note_file;
-
-#[cfg(test)]
-mod tests;

@@ -24,8 +24,6 @@ mod same;
 mod shared;
 mod sizes;
 mod statics;
-#[cfg(test)]
-mod tests;
 mod types;
 mod written;
 

@@ -7,8 +7,6 @@
 #![tactic(auto)]
 
 mod parts;
-#[cfg(test)]
-mod tests;
 mod values;
 
 pub use parts::{Part, called, grouped, indexed, is_initial, note_static, prefixed};

@@ -19,8 +19,6 @@ mod assignments;
 mod calls;
 mod parts;
 mod prefixes;
-#[cfg(test)]
-mod tests;
 mod walk;
 mod words;
 

@@ -10,8 +10,6 @@
 
 mod call;
 mod reserved;
-#[cfg(test)]
-mod tests;
 mod types;
 
 pub use call::{CALLS, Call, Indices, Query, States, call_named};

@@ -19,7 +19,5 @@ mod lookup;
 mod names;
 mod numbers;
 mod objects;
-#[cfg(test)]
-mod tests;
 
 pub use lookup::{CLookup, CMeaning};

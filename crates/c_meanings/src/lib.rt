@@ -17,7 +17,5 @@ mod files;
 mod parameters;
 mod places;
 mod statements;
-#[cfg(test)]
-mod tests;
 
 pub use files::facts_of;

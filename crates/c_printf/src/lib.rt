@@ -9,8 +9,6 @@
 
 mod arguments;
 mod strings;
-#[cfg(test)]
-mod tests;
 
 pub use arguments::text_fits;
 pub use strings::{arguments_fit, note_printf};

@@ -15,8 +15,6 @@ mod inside;
 mod names;
 mod objects;
 mod sizes;
-#[cfg(test)]
-mod tests;
 
 pub use functions::{CFunction, functions_of};
 pub use objects::{CObject, Life, objects_of};

@@ -24,8 +24,6 @@ mod operand;
 mod place;
 mod pointers;
 mod suffixes;
-#[cfg(test)]
-mod tests;
 mod unaries;
 mod written;
 

@@ -26,8 +26,6 @@ mod parameters;
 mod plain;
 mod sizes;
 mod statements;
-#[cfg(test)]
-mod tests;
 
 pub use declarations::{lasts, see_variable};
 pub use defines::{Defines, defines_of};

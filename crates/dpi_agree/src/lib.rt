@@ -9,8 +9,6 @@
 
 mod exports;
 mod imports;
-#[cfg(test)]
-mod tests;
 
 pub use exports::{LinkedExport, note_second_exports, note_unequal_exports};
 pub use imports::{LinkedImport, note_unequal_imports};

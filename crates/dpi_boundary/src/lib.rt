@@ -16,8 +16,6 @@ mod functions;
 mod kinds;
 mod signatures;
 mod table;
-#[cfg(test)]
-mod tests;
 
 pub use fits::{fits_formal, fits_result, fits_variable};
 pub use functions::{fits_export, fits_import};

@@ -10,8 +10,6 @@
 mod integers;
 mod items;
 mod names;
-#[cfg(test)]
-mod tests;
 
 pub use items::{note_export, note_exported_function, note_exported_task, note_import};
 pub use names::{export_c_name, import_c_name, is_taken};

@@ -18,8 +18,6 @@ mod formals;
 mod items;
 mod lists;
 mod modules;
-#[cfg(test)]
-mod tests;
 
 pub use design::Design;
 pub use elaboration::elaborate;

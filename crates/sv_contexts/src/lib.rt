@@ -15,8 +15,6 @@ mod cases;
 mod conditions;
 mod formats;
 mod patterns;
-#[cfg(test)]
-mod tests;
 
 pub use actuals::{note_passed, plain_leaf};
 pub use assignments::{note_assigned, note_computed, note_stepped};

@@ -15,8 +15,6 @@
 mod expressions;
 mod facts;
 mod names;
-#[cfg(test)]
-mod tests;
 
 pub use expressions::{add_call, add_expr, add_lvalue};
 pub use facts::{Fact, Meant};

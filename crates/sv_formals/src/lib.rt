@@ -7,7 +7,5 @@
 #![tactic(auto)]
 
 mod shapes;
-#[cfg(test)]
-mod tests;
 
 pub use shapes::formal_shape;

@@ -16,6 +16,3 @@ mod statements;
 
 pub use around::{Around, Surroundings};
 pub use items::note_file;
-
-#[cfg(test)]
-mod tests;

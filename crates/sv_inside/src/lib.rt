@@ -7,7 +7,5 @@
 #![tactic(auto)]
 
 mod signatures;
-#[cfg(test)]
-mod tests;
 
 pub use signatures::{imports_of, kinds_of, subroutines_of};

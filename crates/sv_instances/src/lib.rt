@@ -24,8 +24,6 @@ mod instances;
 mod laws;
 mod modules;
 mod preorder;
-#[cfg(test)]
-mod tests;
 mod tops;
 
 pub use cycles::without_cycles;

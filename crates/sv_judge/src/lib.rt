@@ -16,8 +16,6 @@ mod calls;
 mod forms;
 mod place;
 mod prefixes;
-#[cfg(test)]
-mod tests;
 mod walk;
 
 pub use calls::{

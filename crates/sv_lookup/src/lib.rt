@@ -14,8 +14,6 @@ mod facts;
 mod lookup;
 mod numbers;
 mod places;
-#[cfg(test)]
-mod tests;
 
 pub use lookup::{Lookup, Meaning};
 pub use numbers::Numbers;

@@ -16,7 +16,5 @@ mod files;
 mod items;
 mod places;
 mod statements;
-#[cfg(test)]
-mod tests;
 
 pub use files::facts_of;

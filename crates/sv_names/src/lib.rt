@@ -16,8 +16,6 @@ mod entry;
 mod scope;
 mod scopes;
 mod subroutines;
-#[cfg(test)]
-mod tests;
 mod uses;
 
 pub use blocks::declare_blocks;

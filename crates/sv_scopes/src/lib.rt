@@ -14,8 +14,6 @@ mod instances;
 mod laws;
 mod names;
 mod scopes;
-#[cfg(test)]
-mod tests;
 mod variables;
 
 pub use homes::{Home, homes_of};

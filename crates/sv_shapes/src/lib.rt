@@ -18,8 +18,6 @@ mod formals;
 mod imports;
 mod kinds;
 mod laws;
-#[cfg(test)]
-mod tests;
 
 pub use bounds::{bound_value, note_bound};
 pub use dimensions::{dimension_range, note_dimension, note_dimensions};
