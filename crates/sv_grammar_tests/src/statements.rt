@@ -2,6 +2,7 @@
 
 use dpi_grammar::Stop;
 use dpi_lex::{Tokens, sv_tokens};
+use sqlite_items::Boxed;
 use std::alloc::Global;
 use std::test::Fail;
 use sv_cursor::Cursor;
@@ -157,10 +158,20 @@ const FLAT: [&[u8]; 9] = [
     b"break;",
 ];
 
+/// A statement, on the heap.
+fn boxed_statement(
+    alloc: Global,
+    tokens: &mut Cursor<'_>,
+    depth: u32,
+) -> Result<Boxed<Stmt>, Stop> {
+    let read = statement(alloc, tokens, depth)?;
+    Ok(Boxed::new(alloc, read)?)
+}
+
 /// Where a statement ends, at that many levels.
 fn end_of(alloc: Global, tokens: &Tokens, depth: u32) -> Result<u32, Stop> {
     let mut cursor = Cursor::new(tokens);
-    statement(alloc, &mut cursor, depth)?;
+    boxed_statement(alloc, &mut cursor, depth)?;
     Ok(cursor.place())
 }
 
@@ -349,8 +360,8 @@ fn is_if_within_if(read: &Stmt) -> bool {
 fn an_else_belongs_to_the_nearest_if(rt: HostRuntime) -> Result<(), Fail> {
     let tokens = sv_tokens(rt.alloc(), b"if (a) if (b) ; else ;")?;
     let mut cursor = Cursor::new(&tokens);
-    let inner_has_it = match statement(rt.alloc(), &mut cursor, 24) {
-        Ok(read) => is_if_within_if(&read),
+    let inner_has_it = match boxed_statement(rt.alloc(), &mut cursor, 24) {
+        Ok(read) => is_if_within_if(read.get()),
         Err(_stop) => false,
     };
     assert!(rt; inner_has_it);
