@@ -25,7 +25,7 @@ const PAST: Result<(CBase, u64), OpTrap> = Err(OpTrap::ShiftRange);
 type Row = (CBase, u64, CBinOp, CBase, u64, Result<(CBase, u64), OpTrap>);
 
 /// Two numbers by type and bits under an operator, and the type and bits that ISO C 6.5 gives.
-const NUMBERS: [Row; 40] = [
+const NUMBERS: &[Row] = &[
     (Int, 0x8000_0000, CBinOp::Div, Int, 0xffff_ffff, OVERFLOW),
     (Int, 0x8000_0000, CBinOp::Rem, Int, 0xffff_ffff, OVERFLOW),
     (Int, 7, CBinOp::Div, Int, 0, ZERO_DIVISOR),
@@ -183,7 +183,7 @@ const NUMBERS: [Row; 40] = [
 #[test]
 fn operators_on_numbers_follow_iso_c(rt: HostRuntime) -> Result<(), Fail> {
     let memory: Memory<PlainLedger> = Memory::new(rt.alloc());
-    for (s, a, op, t, b, wanted) in NUMBERS {
+    for &(s, a, op, t, b, wanted) in NUMBERS {
         let got = binary(&memory, op, &number(s, a), &number(t, b));
         let wanted = match wanted {
             Ok((of, bits)) => Ok(number(of, bits)),
@@ -195,7 +195,7 @@ fn operators_on_numbers_follow_iso_c(rt: HostRuntime) -> Result<(), Fail> {
 }
 
 /// A number under a unary operator, and what ISO C 6.5.3.3 gives.
-const UNARIES: [(CUnOp, CBase, u64, Result<(CBase, u64), OpTrap>); 7] = [
+const UNARIES: &[(CUnOp, CBase, u64, Result<(CBase, u64), OpTrap>)] = &[
     (CUnOp::Minus, Int, 0x8000_0000, OVERFLOW),
     (CUnOp::Minus, Char, 0x80, Ok((Int, 128))),
     (CUnOp::Minus, UnsignedInt, 1, Ok((UnsignedInt, 0xffff_ffff))),
@@ -211,7 +211,7 @@ const UNARIES: [(CUnOp, CBase, u64, Result<(CBase, u64), OpTrap>); 7] = [
 ];
 
 /// A number, another type, and the bits there (ISO C 6.3.1.3).
-const CONVERSIONS: [(CBase, u64, CBase, u64); 6] = [
+const CONVERSIONS: &[(CBase, u64, CBase, u64)] = &[
     (Int, 0xffff_ffff, Char, 0xff),
     (Char, 0xff, LongLong, u64::MAX),
     (UnsignedChar, 0xff, Int, 0xff),
@@ -223,7 +223,7 @@ const CONVERSIONS: [(CBase, u64, CBase, u64); 6] = [
 #[test]
 fn unary_operators_and_conversions_follow_iso_c(rt: HostRuntime) -> Result<(), Fail> {
     let memory: Memory<PlainLedger> = Memory::new(rt.alloc());
-    for (op, of, bits, wanted) in UNARIES {
+    for &(op, of, bits, wanted) in UNARIES {
         let wanted = match wanted {
             Ok((of, bits)) => Ok(number(of, bits)),
             Err(trap) => Err(trap),
@@ -234,7 +234,7 @@ fn unary_operators_and_conversions_follow_iso_c(rt: HostRuntime) -> Result<(), F
             "{op:?} {of:?} {bits}"
         );
     }
-    for (from, bits, to, wanted) in CONVERSIONS {
+    for &(from, bits, to, wanted) in CONVERSIONS {
         let got = convert(&number(from, bits), CType::plain(to));
         assert_eq!(rt; got, number(to, wanted), "{from:?} {bits} {to:?}");
     }

@@ -18,7 +18,7 @@ enum Part {
 
 /// A part, a text, and the number of the token behind the part or of the refused one, with 24
 /// levels left, by the grammar in docs/LANGUAGES.md.
-const PARTS: [(Part, &[u8], Result<u32, Stop>); 73] = [
+const PARTS: &[(Part, &[u8], Result<u32, Stop>)] = &[
     (Part::Expr, b"a", Ok(1)),
     (Part::Expr, b"1", Ok(1)),
     (Part::Expr, b"'c'", Ok(1)),
@@ -97,7 +97,7 @@ const PARTS: [(Part, &[u8], Result<u32, Stop>); 73] = [
 /// A text, how many levels are left, and the number of the token behind the expression, of the
 /// refused one, or of the first with which only deeper expressions go on, by the table of levels in
 /// docs/LANGUAGES.md.
-const LEVELS: [(&[u8], u32, Result<u32, Stop>); 36] = [
+const LEVELS: &[(&[u8], u32, Result<u32, Stop>)] = &[
     (b"a = b = c + -d", 0, Ok(8)),
     (b"(int) (const char *) a", 0, Ok(9)),
     (b"a.b->c++", 0, Ok(6)),
@@ -158,7 +158,7 @@ fn read(alloc: Global, part: Part, tokens: &mut Cursor<'_>, depth: u32) -> Resul
 
 #[test]
 fn parts_take_their_tokens_or_refuse_the_first_that_is_none(rt: HostRuntime) -> Result<(), Fail> {
-    for (part, text, want) in PARTS {
+    for &(part, text, want) in PARTS {
         assert!(rt; text.len() <= 1_048_576);
         let tokens = c_tokens(rt.alloc(), text)?;
         let mut cursor = Cursor::new(&tokens);
@@ -169,7 +169,7 @@ fn parts_take_their_tokens_or_refuse_the_first_that_is_none(rt: HostRuntime) -> 
 
 #[test]
 fn levels_begin_at_their_tokens(rt: HostRuntime) -> Result<(), Fail> {
-    for (text, depth, want) in LEVELS {
+    for &(text, depth, want) in LEVELS {
         assert!(rt; text.len() <= 1_048_576);
         let tokens = c_tokens(rt.alloc(), text)?;
         let mut cursor = Cursor::new(&tokens);
@@ -182,7 +182,7 @@ fn levels_begin_at_their_tokens(rt: HostRuntime) -> Result<(), Fail> {
 }
 
 /// First tokens, and whether an expression begins with each (ISO C 6.5).
-const FIRSTS: [(&[u8], bool); 16] = [
+const FIRSTS: &[(&[u8], bool)] = &[
     (b"a", true),
     (b"1", true),
     (b"'c'", true),
@@ -203,7 +203,7 @@ const FIRSTS: [(&[u8], bool); 16] = [
 
 #[test]
 fn expressions_begin_with_these(rt: HostRuntime) -> Result<(), Fail> {
-    for (text, want) in FIRSTS {
+    for &(text, want) in FIRSTS {
         assert!(rt; text.len() <= 1_048_576);
         let tokens = c_tokens(rt.alloc(), text)?;
         assert_eq!(rt; begins_expr(&Cursor::new(&tokens)), want, "{text:?}");

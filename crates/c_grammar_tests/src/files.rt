@@ -9,7 +9,7 @@ use std::test::Fail;
 
 /// Files of one external declaration. The first tokens of each, at least one and not all, are no
 /// file, and no file goes on with a `:` behind them, nor behind none.
-const SINGLES: [&[u8]; 54] = [
+const SINGLES: &[&[u8]] = &[
     b"#define N 3",
     b"int x;",
     b"static int x;",
@@ -67,7 +67,7 @@ const SINGLES: [&[u8]; 54] = [
 ];
 
 /// Files with the first token with which no file goes on.
-const REFUSED: [(&[u8], u32); 58] = [
+const REFUSED: &[(&[u8], u32)] = &[
     (b";", 0),
     (b"x;", 0),
     (b"f();", 0),
@@ -140,7 +140,7 @@ type Repeated = (
 );
 
 /// Files of 24 levels, and files with many parts that open none.
-const SHALLOW: [Repeated; 18] = [
+const SHALLOW: &[Repeated] = &[
     (b"void f() {", 23, b"{", b"", b"}", b"}"),
     (b"void f() {", 23, b"if (x) ", b";", b"", b"}"),
     (
@@ -190,7 +190,7 @@ const SHALLOW: [Repeated; 18] = [
 ];
 
 /// Texts with the token that opens level 25: whatever stands behind it.
-const DEEP: [(Repeated, u32); 14] = [
+const DEEP: &[(Repeated, u32)] = &[
     ((b"void f() {", 24, b"{", b"", b"}", b"}"), 28),
     ((b"void f() {", 24, b"{", b":", b"", b""), 28),
     ((b"void f() {", 24, b"if (x) ", b"", b"", b""), 97),
@@ -272,7 +272,7 @@ fn fault_of(rt: &impl Abort, alloc: Global, text: &[u8]) -> Result<Option<ParseF
 
 #[test]
 fn each_form_is_read(rt: HostRuntime) -> Result<(), Fail> {
-    for text in SINGLES {
+    for &text in SINGLES {
         assert!(rt; fault_of(&rt, rt.alloc(), text)?.is_none(), "{text:?}");
     }
     Ok(())
@@ -281,7 +281,7 @@ fn each_form_is_read(rt: HostRuntime) -> Result<(), Fail> {
 #[test]
 fn each_form_is_refused_at_each_of_its_tokens(rt: HostRuntime) -> Result<(), Fail> {
     let alloc = rt.alloc();
-    for text in SINGLES {
+    for &text in SINGLES {
         for token in 1..tokens_of(&rt, alloc, text)?.len() {
             let want = Some(ParseFault::Syntax { token });
             let ended = cut(&rt, alloc, text, token, b"")?;
@@ -304,7 +304,7 @@ fn a_file_without_tokens_is_read(rt: HostRuntime) -> Result<(), Fail> {
 #[test]
 fn the_first_token_with_which_no_file_goes_on_is_named(rt: HostRuntime) -> Result<(), Fail> {
     let alloc = rt.alloc();
-    for (text, token) in REFUSED {
+    for &(text, token) in REFUSED {
         let want = Some(ParseFault::Syntax { token });
         assert!(rt; fault_of(&rt, alloc, text)? == want, "{text:?}");
     }
@@ -319,11 +319,11 @@ fn the_first_token_with_which_no_file_goes_on_is_named(rt: HostRuntime) -> Resul
 #[test]
 fn a_file_has_24_levels_at_most(rt: HostRuntime) -> Result<(), Fail> {
     let alloc = rt.alloc();
-    for text in SHALLOW {
+    for &text in SHALLOW {
         let whole = repeated(alloc, text)?;
         assert!(rt; fault_of(&rt, alloc, &whole)?.is_none(), "{whole:?}");
     }
-    for (text, token) in DEEP {
+    for &(text, token) in DEEP {
         let want = Some(ParseFault::TooDeep { token });
         let whole = repeated(alloc, text)?;
         assert!(rt; fault_of(&rt, alloc, &whole)? == want, "{token}");

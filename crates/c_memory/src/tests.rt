@@ -78,7 +78,7 @@ fn sample(alloc: Global) -> Result<Memory<PlainLedger>, Fail> {
 }
 
 /// Pointer, type, and what a load answers. Each refused row breaks every later rule that it can.
-const LOADS: [(Pointer, CellType, Result<CCell, MemTrap>); 14] = [
+const LOADS: &[(Pointer, CellType, Result<CCell, MemTrap>)] = &[
     (Pointer::Null, CHAR, Err(MemTrap::Null)),
     (
         Pointer::At {
@@ -190,7 +190,7 @@ const LOADS: [(Pointer, CellType, Result<CCell, MemTrap>); 14] = [
 fn a_load_answers_the_first_trap_or_the_value(rt: HostRuntime) -> Result<(), Fail> {
     let memory = sample(rt.alloc())?;
     let mut steps = Steps::new(PlainLedger::new());
-    for (p, of, wanted) in LOADS {
+    for &(p, of, wanted) in LOADS {
         assert!(rt; of.is_sized());
         assert_eq!(rt; memory.load(p, of, &mut steps), wanted, "{p:?} {of:?}");
     }
@@ -198,7 +198,7 @@ fn a_load_answers_the_first_trap_or_the_value(rt: HostRuntime) -> Result<(), Fai
 }
 
 /// Pointer, type, value, and what a load there answers after the store.
-const STORES: [(Pointer, CellType, CCell, Result<CCell, MemTrap>); 15] = [
+const STORES: &[(Pointer, CellType, CCell, Result<CCell, MemTrap>)] = &[
     (Pointer::Null, CHAR, CCell::Number(1), Err(MemTrap::Null)),
     (
         Pointer::At {
@@ -332,7 +332,7 @@ const STORES: [(Pointer, CellType, CCell, Result<CCell, MemTrap>); 15] = [
 fn a_store_keeps_the_used_bits_or_answers_the_first_trap(rt: HostRuntime) -> Result<(), Fail> {
     let mut memory = sample(rt.alloc())?;
     let mut steps = Steps::new(PlainLedger::new());
-    for (p, of, cell, wanted) in STORES {
+    for &(p, of, cell, wanted) in STORES {
         assert!(rt; of.is_sized());
         assert!(rt; of.fits(cell));
         let stored = memory.store(p, of, cell, &mut steps);
@@ -367,7 +367,7 @@ fn a_store_keeps_the_used_bits_or_answers_the_first_trap(rt: HostRuntime) -> Res
 }
 
 /// Pointer, member, value, and the pair afterwards; the rows follow one another.
-const MEMBERS: [(Pointer, bool, u32, Result<Word4, MemTrap>); 6] = [
+const MEMBERS: &[(Pointer, bool, u32, Result<Word4, MemTrap>)] = &[
     (Pointer::Null, true, 1, Err(MemTrap::Null)),
     (
         Pointer::At {
@@ -420,7 +420,7 @@ const MEMBERS: [(Pointer, bool, u32, Result<Word4, MemTrap>); 6] = [
 fn a_store_into_a_member_keeps_the_other_one(rt: HostRuntime) -> Result<(), Fail> {
     let mut memory = sample(rt.alloc())?;
     let mut steps = Steps::new(PlainLedger::new());
-    for (p, aval, value, wanted) in MEMBERS {
+    for &(p, aval, value, wanted) in MEMBERS {
         let stored = memory.store_member(p, aval, value, &mut steps);
         assert_eq!(rt; stored, wanted.map(|_| ()), "{p:?} {aval}");
         if stored.is_ok() {
@@ -432,7 +432,7 @@ fn a_store_into_a_member_keeps_the_other_one(rt: HostRuntime) -> Result<(), Fail
 }
 
 /// Pointer, cells to move, and the place reached.
-const MOVES: [(Pointer, i64, Result<Pointer, MemTrap>); 11] = [
+const MOVES: &[(Pointer, i64, Result<Pointer, MemTrap>)] = &[
     (Pointer::Null, 0, Err(MemTrap::Null)),
     (
         Pointer::At {
@@ -531,14 +531,14 @@ const MOVES: [(Pointer, i64, Result<Pointer, MemTrap>); 11] = [
 #[test]
 fn a_move_stays_in_the_object_or_goes_one_past_it(rt: HostRuntime) -> Result<(), Fail> {
     let memory = sample(rt.alloc())?;
-    for (p, n, wanted) in MOVES {
+    for &(p, n, wanted) in MOVES {
         assert_eq!(rt; memory.move_by(p, n), wanted, "{p:?} {n}");
     }
     Ok(())
 }
 
 /// Two pointers, their order and their difference.
-const PAIRS: [(Pointer, Pointer, Result<(Ordering, i64), MemTrap>); 8] = [
+const PAIRS: &[(Pointer, Pointer, Result<(Ordering, i64), MemTrap>)] = &[
     (
         Pointer::Null,
         Pointer::At {
@@ -626,7 +626,7 @@ const PAIRS: [(Pointer, Pointer, Result<(Ordering, i64), MemTrap>); 8] = [
 #[test]
 fn two_pointers_compare_in_one_object_alone(rt: HostRuntime) -> Result<(), Fail> {
     let memory = sample(rt.alloc())?;
-    for (p, q, wanted) in PAIRS {
+    for &(p, q, wanted) in PAIRS {
         assert_eq!(rt; memory.compare(p, q), wanted.map(|w| w.0), "{p:?} {q:?}");
         assert_eq!(rt; memory.difference(p, q), wanted.map(|w| w.1), "{p:?} {q:?}");
     }

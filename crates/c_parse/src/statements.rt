@@ -107,12 +107,12 @@ fn if_stmt(alloc: Global, tokens: &mut Cursor<'_>, depth: u32) -> Result<If, Sto
     let token = tokens.place();
     tokens.expect(Class::If)?;
     let condition = condition(alloc, tokens, depth)?;
-    let body = stmt(alloc, tokens, depth)?;
+    let body = boxed_stmt(alloc, tokens, depth)?;
     let (others, last) = branches(alloc, tokens, depth)?;
     Ok(If {
         token,
         condition,
-        body,
+        body: body.into_inner(),
         others,
         last,
     })
@@ -236,6 +236,7 @@ fn for_stmt(alloc: Global, tokens: &mut Cursor<'_>, depth: u32) -> Result<Stmt, 
     tokens.expect(Class::For)?;
     tokens.expect(Class::OpenParen)?;
     let start = start(alloc, tokens, depth)?;
+    let start = Boxed::new(alloc, start)?;
     for_test(alloc, tokens, depth, token, start)
 }
 
@@ -247,7 +248,7 @@ fn for_test(
     tokens: &mut Cursor<'_>,
     depth: u32,
     token: u32,
-    start: Start,
+    start: Boxed<Start>,
 ) -> Result<Stmt, Stop>
     ensures { Reads (spec.for_test_by (expr depth) (spec.stmt depth) token start tokens.old) result tokens.new }
 {
@@ -264,7 +265,7 @@ fn for_step(
     tokens: &mut Cursor<'_>,
     depth: u32,
     token: u32,
-    start: Start,
+    start: Boxed<Start>,
     test: Option<CExpr>,
 ) -> Result<Stmt, Stop>
     ensures { Reads (spec.for_step_by (expr depth) (spec.stmt depth) token start test tokens.old) result tokens.new }
@@ -281,14 +282,14 @@ fn for_body(
     tokens: &mut Cursor<'_>,
     depth: u32,
     token: u32,
-    start: Start,
+    start: Boxed<Start>,
     test: Option<CExpr>,
     step: Option<CExpr>,
 ) -> Result<Stmt, Stop>
     ensures { Reads (spec.for_body_by (expr depth) (spec.stmt depth) token start test step tokens.old) result tokens.new }
 {
     let body = boxed_stmt(alloc, tokens, depth)?;
-    Ok(Stmt::For(token, start, test, step, body))
+    Ok(Stmt::For(token, start.into_inner(), test, step, body))
 }
 
 /// A statement inside another.

@@ -3,7 +3,7 @@ use c_initial::{Part, called, grouped, indexed, is_initial, prefixed};
 use c_tree::UnaryOperator;
 
 /// A prefix, the part behind it, and whether an object may begin with both.
-const PREFIXED: [(UnaryOperator, Part, bool); 7] = [
+const PREFIXED: &[(UnaryOperator, Part, bool)] = &[
     (UnaryOperator::Minus, Part::Token, true),
     (UnaryOperator::Tilde, Part::Token, false),
     (UnaryOperator::And, Part::Object, true),
@@ -15,7 +15,7 @@ const PREFIXED: [(UnaryOperator, Part, bool); 7] = [
 
 #[test]
 fn prefix_of_a_number_or_an_object(rt: HostRuntime) {
-    for (operator, part, may) in PREFIXED {
+    for &(operator, part, may) in PREFIXED {
         assert_eq!(rt;
             is_initial(prefixed(operator, part)),
             may,

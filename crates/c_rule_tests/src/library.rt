@@ -4,7 +4,7 @@ use c_library::{call_named, is_reserved, note_count, scalar_named, word_count};
 use dpi_rules::Violation;
 
 /// A name, the base and the stars of its result, and the fewest and the most arguments.
-const CALLS: [(&[u8], CBase, u8, u32, u32); 7] = [
+const CALLS: &[(&[u8], CBase, u8, u32, u32)] = &[
     (b"svIncrement", CBase::Int, 0, 2, 2),
     (b"svGetArrElemPtr", CBase::Void, 1, 2, 4),
     (b"svGetArrElemPtr3", CBase::Void, 1, 4, 4),
@@ -16,7 +16,7 @@ const CALLS: [(&[u8], CBase, u8, u32, u32); 7] = [
 
 #[test]
 fn calls_are_declared_so(rt: HostRuntime) {
-    for (name, base, stars, least, most) in CALLS {
+    for &(name, base, stars, least, most) in CALLS {
         let Some(call) = call_named(name) else {
             panic!(rt; "{name:?}");
         };
@@ -32,7 +32,7 @@ fn calls_are_declared_so(rt: HostRuntime) {
 }
 
 /// A name, a parameter counted from 0, and its base, const and stars.
-const PARAMETERS: [(&[u8], u32, CBase, bool, u8); 5] = [
+const PARAMETERS: &[(&[u8], u32, CBase, bool, u8)] = &[
     (b"svPutBitArrElem1VecVal", 1, CBase::UnsignedInt, true, 1),
     (b"svPutPartselLogic", 1, CBase::LogicVec, false, 0),
     (b"svGetPartselLogic", 1, CBase::LogicVec, true, 1),
@@ -42,7 +42,7 @@ const PARAMETERS: [(&[u8], u32, CBase, bool, u8); 5] = [
 
 #[test]
 fn parameters_have_their_types(rt: HostRuntime) {
-    for (name, place, base, constant, stars) in PARAMETERS {
+    for &(name, place, base, constant, stars) in PARAMETERS {
         let of = call_named(name).and_then(|call| call.parameter(place));
         assert!(rt; of.is_some(), "{name:?}");
         if let Some(of) = of {
@@ -54,7 +54,7 @@ fn parameters_have_their_types(rt: HostRuntime) {
 }
 
 /// Names, and whether they may be declared.
-const NAMES: [(&[u8], bool); 6] = [
+const NAMES: &[(&[u8], bool)] = &[
     (b"printf", false),
     (b"sv_x", false),
     (b"SV_PACKED_DATA_NELEMS", false),
@@ -65,7 +65,7 @@ const NAMES: [(&[u8], bool); 6] = [
 
 #[test]
 fn names_of_svdpi_are_reserved(rt: HostRuntime) {
-    for (name, free) in NAMES {
+    for &(name, free) in NAMES {
         assert_eq!(rt; !is_reserved(name), free, "{name:?}");
     }
     assert_eq!(rt; scalar_named(b"sv_z"), Some(2));

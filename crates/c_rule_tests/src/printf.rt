@@ -4,7 +4,7 @@ use c_printf::text_fits;
 use c_typing::Operand;
 
 /// A string token, the base and the stars of an argument, and whether they fit.
-const ROWS: [(&[u8], CBase, u8, bool); 9] = [
+const ROWS: &[(&[u8], CBase, u8, bool)] = &[
     (b"\"%05d\\n\"", CBase::Char, 0, true),
     (b"\"%lld\"", CBase::Int, 0, false),
     (b"\"%llx\"", CBase::UnsignedLongLong, 0, true),
@@ -18,7 +18,7 @@ const ROWS: [(&[u8], CBase, u8, bool); 9] = [
 
 #[test]
 fn arguments_fit_their_letters(rt: HostRuntime) {
-    for (text, base, stars, fits) in ROWS {
+    for &(text, base, stars, fits) in ROWS {
         let of = CType {
             base,
             base_const: true,

@@ -56,7 +56,7 @@ fn broken(rule: u8) -> Violation {
 }
 
 /// The type of a value, the type to which it goes, and whether ISO C 6.5.16.1 lets it.
-const CONVERSIONS: [(Row, Row, bool); 10] = [
+const CONVERSIONS: &[(Row, Row, bool)] = &[
     (INT, UNSIGNED, true),
     (INTS, CONST_INTS, true),
     (CONST_INTS, INTS, false),
@@ -71,7 +71,7 @@ const CONVERSIONS: [(Row, Row, bool); 10] = [
 
 #[test]
 fn conversion_keeps_const_and_type(rt: HostRuntime) {
-    for (from, to, holds) in CONVERSIONS {
+    for &(from, to, holds) in CONVERSIONS {
         let value = operand(from, Form::Value);
         assert_eq!(rt; converts(value, of(to)), holds, "{from:?} {to:?}");
     }
@@ -87,7 +87,7 @@ fn zero_token_alone_is_null(rt: HostRuntime) {
 
 /// An operator, its operands, and the type that it gives, or None for rule 10
 /// (ISO C 6.5.5 to 6.5.14).
-const BINARIES: [(BinaryOperator, Row, Row, Option<Row>); 8] = [
+const BINARIES: &[(BinaryOperator, Row, Row, Option<Row>)] = &[
     (BinaryOperator::Plus, INT, UNSIGNED, Some(UNSIGNED)),
     (BinaryOperator::Less, INT, UNSIGNED, Some(INT)),
     (BinaryOperator::Plus, INT, CONST_INTS, Some(CONST_INTS)),
@@ -100,7 +100,7 @@ const BINARIES: [(BinaryOperator, Row, Row, Option<Row>); 8] = [
 
 #[test]
 fn operators_take_their_operands(rt: HostRuntime) {
-    for (operator, a, b, expected) in BINARIES {
+    for &(operator, a, b, expected) in BINARIES {
         let mut found = None;
         let left = Some(operand(a, Form::Value));
         let right = Some(operand(b, Form::Value));
@@ -123,7 +123,7 @@ fn operators_take_their_operands(rt: HostRuntime) {
 }
 
 /// An operand, a prefix, and the rule that is broken, or 0 (ISO C 6.5.3).
-const PREFIXES: [(Row, Form, UnaryOperator, u8); 6] = [
+const PREFIXES: &[(Row, Form, UnaryOperator, u8)] = &[
     (INTS, Form::Object(true), UnaryOperator::And, 0),
     (TEXTS, Form::Object(true), UnaryOperator::And, 22),
     (UNSIGNED, Form::Member(true), UnaryOperator::And, 14),
@@ -134,7 +134,7 @@ const PREFIXES: [(Row, Form, UnaryOperator, u8); 6] = [
 
 #[test]
 fn prefixes_refuse_by_their_rules(rt: HostRuntime) {
-    for (row, form, operator, rule) in PREFIXES {
+    for &(row, form, operator, rule) in PREFIXES {
         let mut found = None;
         let given = unary(PLACE, operator, Some(operand(row, form)), &mut found);
         assert_eq!(rt; given.is_some(), rule == 0, "{row:?} {operator:?}");
@@ -156,7 +156,7 @@ fn operand_without_type_is_passed_over(rt: HostRuntime) {
 }
 
 /// A target, an operator, the type of a value, and the rule that is broken, or 0 (ISO C 6.5.16).
-const ASSIGNMENTS: [(Row, Form, AssignOperator, Row, u8); 6] = [
+const ASSIGNMENTS: &[(Row, Form, AssignOperator, Row, u8)] = &[
     (INT, Form::Object(true), AssignOperator::Plain, UNSIGNED, 0),
     (INTS, Form::Object(true), AssignOperator::Add, INT, 0),
     (INT, Form::Object(true), AssignOperator::Add, INTS, 10),
@@ -167,7 +167,7 @@ const ASSIGNMENTS: [(Row, Form, AssignOperator, Row, u8); 6] = [
 
 #[test]
 fn assignment_stores_into_objects(rt: HostRuntime) {
-    for (row, form, operator, value, rule) in ASSIGNMENTS {
+    for &(row, form, operator, value, rule) in ASSIGNMENTS {
         let mut found = None;
         let left = Some(operand(row, form));
         let right = Some(operand(value, Form::Value));
@@ -187,7 +187,7 @@ fn assignment_stores_into_objects(rt: HostRuntime) {
 }
 
 /// Two branches, and the type of both, or None for rule 10 (ISO C 6.5.15).
-const CHOICES: [(Row, Row, Option<Row>); 4] = [
+const CHOICES: &[(Row, Row, Option<Row>)] = &[
     (INTS, CONST_INTS, Some(CONST_INTS)),
     (INTS, VOIDS, Some(VOIDS)),
     (SCOPE, SCOPE, Some(SCOPE)),
@@ -196,7 +196,7 @@ const CHOICES: [(Row, Row, Option<Row>); 4] = [
 
 #[test]
 fn branches_go_together(rt: HostRuntime) {
-    for (a, b, expected) in CHOICES {
+    for &(a, b, expected) in CHOICES {
         let mut found = None;
         let condition = Some(operand(INT, Form::Value));
         let yes = Some(operand(a, Form::Value));

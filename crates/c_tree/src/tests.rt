@@ -7,7 +7,7 @@ use std::rt::HostRuntime;
 
 /// Tokens, and what each is for the grammar: a word that the grammar doesn't quote is a name, a sign
 /// that it doesn't quote is of no production.
-const TOKENS: [(Kind, &[u8], Class); 19] = [
+const TOKENS: &[(Kind, &[u8], Class)] = &[
     (Kind::Word, b"int", Class::Int),
     (Kind::Word, b"uint64_t", Class::Uint64),
     (Kind::Word, b"svLogicVecVal", Class::SvLogicVecVal),
@@ -48,7 +48,7 @@ fn each_class_with_a_spelling_is_read_back(rt: HostRuntime) {
 
 /// Words, and whether they are a base: a sign comes first, `int` comes last, each at most once, and
 /// `long` comes twice.
-const BASES: [(&[Class], bool); 24] = [
+const BASES: &[(&[Class], bool)] = &[
     (&[], false),
     (&[Class::Void], true),
     (&[Class::Char], true),

@@ -9,7 +9,7 @@ use std::test::Fail;
 
 /// Texts that begin with a type, how many tokens are left behind it, and how many `const` stand
 /// before and behind its base.
-const ACCEPTED: [(&[u8], u32, usize, usize); 10] = [
+const ACCEPTED: &[(&[u8], u32, usize, usize)] = &[
     (b"int x", 1, 0, 0),
     (b"unsigned long long int x", 1, 0, 0),
     (b"const const char const * x", 2, 2, 1),
@@ -23,7 +23,7 @@ const ACCEPTED: [(&[u8], u32, usize, usize); 10] = [
 ];
 
 /// Texts with which no type begins, and the number of the token that is refused.
-const REFUSED: [(&[u8], u32); 8] = [
+const REFUSED: &[(&[u8], u32)] = &[
     (b"", 0),
     (b"x", 0),
     (b"static int", 0),
@@ -36,7 +36,7 @@ const REFUSED: [(&[u8], u32); 8] = [
 
 #[test]
 fn a_type_ends_where_no_word_of_it_follows(rt: HostRuntime) -> Result<(), Fail> {
-    for (text, left, before, behind) in ACCEPTED {
+    for &(text, left, before, behind) in ACCEPTED {
         assert!(rt; text.len() <= 1_048_576);
         let tokens = c_tokens(rt.alloc(), text)?;
         let mut cursor = Cursor::new(&tokens);
@@ -52,7 +52,7 @@ fn a_type_ends_where_no_word_of_it_follows(rt: HostRuntime) -> Result<(), Fail> 
 
 #[test]
 fn the_token_with_which_no_type_goes_on_is_refused(rt: HostRuntime) -> Result<(), Fail> {
-    for (text, token) in REFUSED {
+    for &(text, token) in REFUSED {
         assert!(rt; text.len() <= 1_048_576);
         let tokens = c_tokens(rt.alloc(), text)?;
         let mut cursor = Cursor::new(&tokens);

@@ -57,24 +57,33 @@ named_size a p name (Some e) = thing_size a p e.token e.thing
 abbrev pub size_by_name : Around → List Names → Name → Sized
 size_by_name a names n = named_size a (at a n.token) n.bytes (find names n.bytes)
 
--- the macro for words of a number; rule 3 at another name before a `(`
-abbrev pub size_by_words : Around → Name → Number → Sized
-size_by_words a n w = if is_word_count n.bytes then sized (at a n.token) (word_count w.bytes).value else no_size (at a n.token) 3
+-- a name before a `(` that isn't the macro for words: rule 3, or 2 where no file declares it
+abbrev pub no_macro_rule : List ℕ → Option Entry → ℕ
+no_macro_rule name None = unknown_rule name
+no_macro_rule name (Some e) = 3
+
+-- the macro for words of a number
+abbrev pub words_size : Place → List ℕ → Option Entry → List ℕ → Sized
+words_size p name entry width = if is_word_count name then sized p (word_count width).value else no_size p (no_macro_rule name entry)
+
+abbrev pub size_by_words : Around → List Names → Name → Number → Sized
+size_by_words a names n w = words_size (at a n.token) n.bytes (find names n.bytes) w.bytes
 
 -- a number, a name, or the macro for words
 abbrev pub size : Around → List Names → Size → Sized
 size a names (sizes.Number n) = sized (at a n.token) (number_of n.bytes).value
 size a names (sizes.Name n) = size_by_name a names n
-size a names (sizes.Call n k w) = size_by_words a n w
+size a names (sizes.Call n k w) = size_by_words a names n w
 
 -- the cells of a declarator: one where it is no array
 abbrev pub array_size : Around → List Names → Option Array → Sized
 array_size a names None = record { found = []; cells = Some 1 }
 array_size a names (Some x) = size a names x.size
 
--- what a size of a parameter's array breaks, where it is a name
+-- what a size of a parameter's array breaks by the name in it
 abbrev pub name_size_violations : Around → List Names → Option Size → List Violation
 name_size_violations a names (Some (sizes.Name n)) = (size_by_name a names n).found
+name_size_violations a names (Some (sizes.Call n k w)) = (size_by_words a names n w).found
 name_size_violations a names _ = []
 
 abbrev pub param_size_violations : Around → List Names → Option ParamArray → List Violation

@@ -10,7 +10,7 @@ ghost use Rattle.c_walk.specs.Declarations as spec;
 
 use crate::objects::{declared_operand, unrefused};
 use crate::outside::{Outside, at};
-use crate::sizes::named_size;
+use crate::sizes::{named_size, words_size};
 use c_names::{Entry, Scope, Scopes, Thing, note_second};
 use c_tree::{Name, Param, ParamArray, Params, Size};
 use c_typing::{Declared, Operand, adjusted, declared_of};
@@ -54,10 +54,19 @@ fn note_name_size(
 )
     ensures { found.new ≡ noted found.old (name_size_violations (around_of outside.now) (scopes_of scopes.now ++ names_of scope.now ∷ []) size.now) }
 {
-    if let Some(Size::Name(name)) = size {
-        let bytes = name.bytes.as_slice();
-        let entry = entry_in(scopes, scope, bytes);
-        let _ = named_size(outside, at(outside, name.token), bytes, entry, found);
+    match size {
+        Some(Size::Name(name)) => {
+            let bytes = name.bytes.as_slice();
+            let entry = entry_in(scopes, scope, bytes);
+            let _ = named_size(outside, at(outside, name.token), bytes, entry, found);
+        }
+        Some(Size::Call(name, _, width)) => {
+            let bytes = name.bytes.as_slice();
+            let entry = entry_in(scopes, scope, bytes);
+            let width = width.bytes.as_slice();
+            let _ = words_size(at(outside, name.token), bytes, entry, width, found);
+        }
+        _ => {}
     }
 }
 

@@ -123,21 +123,49 @@ fn size_by_name(
     named_size(outside, at(outside, name.token), bytes, entry, found)
 }
 
+/// The rule that a name before a `(` breaks, where it isn't the macro for words.
+fn no_macro_rule(name: &[u8], entry: Option<Entry>) -> u8
+    ensures { result ≡ spec.no_macro_rule name.now entry }
+{
+    match entry {
+        None => rule_of_unknown(name),
+        Some(_) => KIND_RULE,
+    }
+}
+
+/// The cells of an array whose size is the macro for words of a number. Rules 2, 3 and 4 are noted
+/// at the name; None where one is.
+pub(crate) fn words_size(
+    place: Place,
+    name: &[u8],
+    entry: Option<Entry>,
+    width: &[u8],
+    found: &mut Option<Violation>,
+) -> Option<u32>
+    ensures cells { result ≡ (spec.words_size place name.now entry width.now).cells }
+    ensures found { found.new ≡ noted found.old (spec.words_size place name.now entry width.now).found }
+{
+    if is_word_count(name) {
+        sized(place, word_count(width).value, found)
+    } else {
+        no_size(place, no_macro_rule(name, entry), found)
+    }
+}
+
 fn size_by_words(
     outside: &Outside<'_>,
+    scopes: &Scopes<'_>,
     name: &Name,
     width: &Number,
     found: &mut Option<Violation>,
 ) -> Option<u32>
-    ensures cells { result ≡ (spec.size_by_words (around_of outside.now) name.now width.now).cells }
-    ensures found { found.new ≡ noted found.old (spec.size_by_words (around_of outside.now) name.now width.now).found }
+    ensures cells { result ≡ (spec.size_by_words (around_of outside.now) (scopes_of scopes.now) name.now width.now).cells }
+    ensures found { found.new ≡ noted found.old (spec.size_by_words (around_of outside.now) (scopes_of scopes.now) name.now width.now).found }
 {
-    let place = at(outside, name.token);
-    if is_word_count(name.bytes.as_slice()) {
-        sized(place, word_count(width.bytes.as_slice()).value, found)
-    } else {
-        no_size(place, KIND_RULE, found)
-    }
+    let bytes = name.bytes.as_slice();
+    let entry = scopes.find(bytes);
+    let width = width.bytes.as_slice();
+    words_size(at(outside, name.token), bytes, entry, width, found)
 }
 
 fn size_cells(
@@ -155,7 +183,7 @@ fn size_cells(
             sized(at(outside, number.token), value, found)
         }
         Size::Name(name) => size_by_name(outside, scopes, name, found),
-        Size::Call(name, _, width) => size_by_words(outside, name, width, found),
+        Size::Call(name, _, width) => size_by_words(outside, scopes, name, width, found),
     }
 }
 

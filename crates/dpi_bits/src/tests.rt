@@ -132,7 +132,7 @@ type Worked = (Call, u32, u64, u64, u32, u32, u32);
 
 /// A call, the width of its operands, their numbers, and the width and the one word of the
 /// answer, worked by hand.
-const WORKED: [Worked; 27] = [
+const WORKED: &[Worked] = &[
     (Call::Part, 8, 0x96, 0, 4, 0x5, 0),
     (Call::Concat, 4, 0x5, 0x3, 8, 0x53, 0),
     (Call::Add, 8, 0x96, 0x6a, 8, 0x00, 0),
@@ -174,14 +174,14 @@ fn works(rt: &impl Abort, alloc: Global, row: Worked) -> Result<bool, NoMemory> 
 
 #[test]
 fn each_call_gives_the_worked_value(rt: HostRuntime) -> Result<(), Fail> {
-    for row in WORKED {
+    for &row in WORKED {
         assert!(rt; works(&rt, rt.alloc(), row)?, "{row:?}");
     }
     Ok(())
 }
 
 /// A width, its number of words, the last word of as many 1s, and their parity.
-const WIDTHS: [(u32, u32, u32, Bit); 10] = [
+const WIDTHS: &[(u32, u32, u32, Bit)] = &[
     (1, 1, 0x1, Bit::One),
     (31, 1, 0x7fff_ffff, Bit::One),
     (32, 1, 0xffff_ffff, Bit::Zero),
@@ -245,7 +245,7 @@ fn moves(rt: &impl Abort, alloc: Global, width: u32) -> Result<bool, NoMemory> {
 
 #[test]
 fn every_width_keeps_to_its_bits(rt: HostRuntime) -> Result<(), Fail> {
-    for row in WIDTHS {
+    for &row in WIDTHS {
         assert!(rt; keeps(&rt, rt.alloc(), row)?, "{row:?}");
         assert!(rt; moves(&rt, rt.alloc(), row.0)?, "{row:?}");
     }
@@ -254,7 +254,7 @@ fn every_width_keeps_to_its_bits(rt: HostRuntime) -> Result<(), Fail> {
 
 /// All pairs of states: the first list has four times 0, 1, z and x, the second each of them in
 /// turn, the lowest bit first. An operator and its word, by Tables 11-11 to 11-15 and 11-20.
-const STATES: [(Call, u32, u32); 5] = [
+const STATES: &[(Call, u32, u32)] = &[
     (Call::And, 0xeee0, 0xeec0),
     (Call::Or, 0xfffe, 0xdd0c),
     (Call::Xor, 0xffde, 0xffcc),
@@ -273,14 +273,14 @@ fn pairs(rt: &impl Abort, alloc: Global, row: (Call, u32, u32)) -> Result<bool, 
 
 #[test]
 fn each_pair_of_states_has_its_answer(rt: HostRuntime) -> Result<(), Fail> {
-    for row in STATES {
+    for &row in STATES {
         assert!(rt; pairs(&rt, rt.alloc(), row)?, "{row:?}");
     }
     Ok(())
 }
 
 /// The word of a, that of b, and what `==`, `===`, `<` and a signed `<` say of them at 4 bits.
-const COMPARED: [(Word4, Word4, (Bit, bool, Bit, Bit)); 7] = [
+const COMPARED: &[(Word4, Word4, (Bit, bool, Bit, Bit))] = &[
     (
         Word4 { aval: 5, bval: 0 },
         Word4 { aval: 5, bval: 0 },
@@ -338,7 +338,7 @@ fn compared(
 
 #[test]
 fn comparisons_know_unknown_bits(rt: HostRuntime) -> Result<(), Fail> {
-    for (a, b, answers) in COMPARED {
+    for &(a, b, answers) in COMPARED {
         assert!(rt; compared(&rt, rt.alloc(), a, b)? == answers, "{a:?} {b:?}");
     }
     Ok(())

@@ -7,7 +7,7 @@ use crate::{
 use std::test::Fail;
 
 /// A format of `$display` with its pieces.
-const DISPLAYED: [(&[u8], &[SvPiece]); 8] = [
+const DISPLAYED: &[(&[u8], &[SvPiece])] = &[
     (b"", &[]),
     (
         b"a=%d\n",
@@ -87,7 +87,7 @@ const DISPLAYED: [(&[u8], &[SvPiece]); 8] = [
 
 #[test]
 fn formats_of_display_have_their_pieces(rt: HostRuntime) -> Result<(), Fail> {
-    for (bytes, pieces) in DISPLAYED {
+    for &(bytes, pieces) in DISPLAYED {
         let read = sv_format(rt.alloc(), bytes)?;
         assert_eq!(rt; read.as_slice(), pieces, "{bytes:?}");
     }
@@ -95,20 +95,20 @@ fn formats_of_display_have_their_pieces(rt: HostRuntime) -> Result<(), Fail> {
 }
 
 /// No formats of `$display`.
-const NOT_DISPLAYED: [&[u8]; 12] = [
+const NOT_DISPLAYED: &[&[u8]] = &[
     b"%", b"a%", b"%%%", b"%0", b"%0s", b"%0%", b"%00d", b"%5d", b"%D", b"%0X", b"%c", b"%s% d",
 ];
 
 #[test]
 fn other_bytes_are_no_format_of_display(rt: HostRuntime) {
-    for bytes in NOT_DISPLAYED {
+    for &bytes in NOT_DISPLAYED {
         let refused = matches!(&sv_format(rt.alloc(), bytes), Err(FormatFault::Unknown));
         assert!(rt; refused, "{bytes:?}");
     }
 }
 
 /// A letter with the base that it stands for.
-const BASES: [(SvLetter, u8); 4] = [
+const BASES: &[(SvLetter, u8)] = &[
     (SvLetter::B, 2),
     (SvLetter::D, 10),
     (SvLetter::H, 16),
@@ -117,13 +117,13 @@ const BASES: [(SvLetter, u8); 4] = [
 
 #[test]
 fn letters_stand_for_bases(rt: HostRuntime) {
-    for (letter, base) in BASES {
+    for &(letter, base) in BASES {
         assert_eq!(rt; letter.base(), base);
     }
 }
 
 /// A format of `printf` with its pieces.
-const PRINTED: [(&[u8], &[CPiece]); 10] = [
+const PRINTED: &[(&[u8], &[CPiece])] = &[
     (b"", &[]),
     (b"\0%q", &[]),
     (
@@ -246,7 +246,7 @@ const PRINTED: [(&[u8], &[CPiece]); 10] = [
 
 #[test]
 fn formats_of_printf_have_their_pieces(rt: HostRuntime) -> Result<(), Fail> {
-    for (bytes, pieces) in PRINTED {
+    for &(bytes, pieces) in PRINTED {
         let read = c_format(rt.alloc(), bytes)?;
         assert_eq!(rt; read.as_slice(), pieces, "{bytes:?}");
     }
@@ -254,14 +254,14 @@ fn formats_of_printf_have_their_pieces(rt: HostRuntime) -> Result<(), Fail> {
 }
 
 /// No formats of `printf`.
-const NOT_PRINTED: [&[u8]; 16] = [
+const NOT_PRINTED: &[&[u8]] = &[
     b"%", b"%0", b"%5", b"%l", b"%ll", b"%\0d", b"%00d", b"%100d", b"%0100d", b"%ld", b"%llld",
     b"%5s", b"%0c", b"%lls", b"%D", b"%i",
 ];
 
 #[test]
 fn other_bytes_are_no_format_of_printf(rt: HostRuntime) {
-    for bytes in NOT_PRINTED {
+    for &bytes in NOT_PRINTED {
         let refused = matches!(&c_format(rt.alloc(), bytes), Err(FormatFault::Unknown));
         assert!(rt; refused, "{bytes:?}");
     }

@@ -5,7 +5,7 @@ use std::process::Abort;
 use std::test::Fail;
 
 /// Texts of SystemVerilog with their tokens, kind, start and end, counted by hand.
-const SV_ACCEPTED: [(&[u8], &[(Kind, u32, u32)]); 40] = [
+const SV_ACCEPTED: &[(&[u8], &[(Kind, u32, u32)])] = &[
     (b"", &[]),
     (b" \t\r\n", &[]),
     (b"m_1 a$b", &[(Kind::Word, 0, 3), (Kind::Word, 4, 7)]),
@@ -85,7 +85,7 @@ const SV_ACCEPTED: [(&[u8], &[(Kind, u32, u32)]); 40] = [
 ];
 
 /// Texts of SystemVerilog with the fault at which reading stops.
-const SV_REFUSED: [(&[u8], LexFault); 30] = [
+const SV_REFUSED: &[(&[u8], LexFault)] = &[
     (b"$x", LexFault::BadByte { place: 0 }),
     (b"a $", LexFault::BadByte { place: 2 }),
     (b"\xff", LexFault::BadByte { place: 0 }),
@@ -122,7 +122,7 @@ const SV_REFUSED: [(&[u8], LexFault); 30] = [
 ];
 
 /// Texts of C with their tokens.
-const C_ACCEPTED: [(&[u8], &[(Kind, u32, u32)]); 34] = [
+const C_ACCEPTED: &[(&[u8], &[(Kind, u32, u32)])] = &[
     (b"", &[]),
     (b" \t\r\n", &[]),
     (b"m_1 x", &[(Kind::Word, 0, 3), (Kind::Word, 4, 5)]),
@@ -199,7 +199,7 @@ const C_ACCEPTED: [(&[u8], &[(Kind, u32, u32)]); 34] = [
 ];
 
 /// Texts of C with the fault at which reading stops.
-const C_REFUSED: [(&[u8], LexFault); 46] = [
+const C_REFUSED: &[(&[u8], LexFault)] = &[
     (b"$x", LexFault::BadByte { place: 0 }),
     (b"a@", LexFault::BadByte { place: 1 }),
     (b"`", LexFault::BadByte { place: 0 }),
@@ -249,7 +249,7 @@ const C_REFUSED: [(&[u8], LexFault); 46] = [
 ];
 
 /// Places of `"ab\n\nc"` with their line and column.
-const PLACES: [(u32, (u32, u32)); 6] = [
+const PLACES: &[(u32, (u32, u32))] = &[
     (0, (1, 1)),
     (2, (1, 3)),
     (3, (2, 1)),
@@ -283,11 +283,11 @@ fn expect_tokens(rt: &impl Abort, tokens: &Tokens, text: &[u8], want: &[(Kind, u
 
 #[test]
 fn texts_have_the_tokens_of_their_language(rt: HostRuntime) -> Result<(), Fail> {
-    for (text, want) in SV_ACCEPTED {
+    for &(text, want) in SV_ACCEPTED {
         assert!(rt; text.len() <= 1_048_576);
         expect_tokens(&rt, &sv_tokens(rt.alloc(), text)?, text, want);
     }
-    for (text, want) in C_ACCEPTED {
+    for &(text, want) in C_ACCEPTED {
         assert!(rt; text.len() <= 1_048_576);
         expect_tokens(&rt, &c_tokens(rt.alloc(), text)?, text, want);
     }
@@ -296,14 +296,14 @@ fn texts_have_the_tokens_of_their_language(rt: HostRuntime) -> Result<(), Fail> 
 
 #[test]
 fn the_first_fault_is_named(rt: HostRuntime) {
-    for (text, fault) in SV_REFUSED {
+    for &(text, fault) in SV_REFUSED {
         assert!(rt; text.len() <= 1_048_576);
         assert!(rt;
             sv_tokens(rt.alloc(), text).err() == Some(fault),
             "{text:?}"
         );
     }
-    for (text, fault) in C_REFUSED {
+    for &(text, fault) in C_REFUSED {
         assert!(rt; text.len() <= 1_048_576);
         assert!(rt; c_tokens(rt.alloc(), text).err() == Some(fault), "{text:?}");
     }
@@ -312,7 +312,7 @@ fn the_first_fault_is_named(rt: HostRuntime) {
 #[test]
 fn lines_and_columns_count_from_one(rt: HostRuntime) -> Result<(), Fail> {
     let tokens = sv_tokens(rt.alloc(), b"ab\n\nc")?;
-    for (place, want) in PLACES {
+    for &(place, want) in PLACES {
         assert!(rt; place <= 5);
         assert!(rt; line_column_of(b"ab\n\nc", place) == want, "{place}");
         assert!(rt; tokens.line_column(place) == want, "{place}");

@@ -8,7 +8,7 @@ use dpi_bits::Bit;
 use std::test::Fail;
 
 /// A number with its width, whether it's signed, has an x or z digit, has a size, and its kind.
-const FORMS: [(&[u8], u32, bool, bool, bool, NumberKind); 12] = [
+const FORMS: &[(&[u8], u32, bool, bool, bool, NumberKind)] = &[
     (b"42", 32, true, false, false, NumberKind::Plain),
     (b"1_000", 32, true, false, false, NumberKind::Plain),
     (b"8'hff", 8, false, false, true, NumberKind::Based),
@@ -25,7 +25,7 @@ const FORMS: [(&[u8], u32, bool, bool, bool, NumberKind); 12] = [
 
 #[test]
 fn numbers_tell_their_form(rt: HostRuntime) {
-    for (bytes, width, signed, four, sized, kind) in FORMS {
+    for &(bytes, width, signed, four, sized, kind) in FORMS {
         let form = NumberForm {
             width,
             signed,
@@ -38,7 +38,7 @@ fn numbers_tell_their_form(rt: HostRuntime) {
 }
 
 /// A number with its bits, the highest first.
-const BITS: [(&[u8], &[u8]); 20] = [
+const BITS: &[(&[u8], &[u8])] = &[
     (b"5", b"00000000000000000000000000000101"),
     (b"4294967295", b"11111111111111111111111111111111"),
     (b"4'b1?x0", b"1zx0"),
@@ -72,7 +72,7 @@ fn letter(bit: Bit) -> u8 {
 
 #[test]
 fn numbers_have_their_bits(rt: HostRuntime) -> Result<(), Fail> {
-    for (bytes, bits) in BITS {
+    for &(bytes, bits) in BITS {
         let value = sv_value(rt.alloc(), bytes)?;
         let mut letters = Vec::new(rt.alloc());
         for i in 0..value.width() {
@@ -84,7 +84,7 @@ fn numbers_have_their_bits(rt: HostRuntime) -> Result<(), Fail> {
 }
 
 /// A number with its value, where its bits are known and it fits in 64 bits.
-const KNOWN: [(&[u8], Option<i64>); 13] = [
+const KNOWN: &[(&[u8], Option<i64>)] = &[
     (b"42", Some(42)),
     (b"4294967295", Some(-1)),
     (b"8'hff", Some(255)),
@@ -102,7 +102,7 @@ const KNOWN: [(&[u8], Option<i64>); 13] = [
 
 #[test]
 fn known_numbers_have_a_value(rt: HostRuntime) -> Result<(), Fail> {
-    for (bytes, value) in KNOWN {
+    for &(bytes, value) in KNOWN {
         assert_eq!(rt; sv_known(rt.alloc(), bytes)?, value, "{bytes:?}");
     }
     let wide = b"130'sh3_ffff_ffff_ffff_ffff_ffff_ffff_ffff_ffff";
@@ -111,7 +111,7 @@ fn known_numbers_have_a_value(rt: HostRuntime) -> Result<(), Fail> {
 }
 
 /// Bytes with their value, where they are a plain decimal number.
-const DECIMALS: [(&[u8], Option<u32>); 7] = [
+const DECIMALS: &[(&[u8], Option<u32>)] = &[
     (b"0", Some(0)),
     (b"1_0", Some(10)),
     (b"4294967295", Some(4_294_967_295)),
@@ -123,13 +123,13 @@ const DECIMALS: [(&[u8], Option<u32>); 7] = [
 
 #[test]
 fn plain_decimals_have_a_value(rt: HostRuntime) {
-    for (bytes, value) in DECIMALS {
+    for &(bytes, value) in DECIMALS {
         assert_eq!(rt; sv_decimal(bytes), value, "{bytes:?}");
     }
 }
 
 /// A number of C with its type and value (ISO C 6.4.4.1, the table at paragraph 5).
-const C_NUMBERS: [(&[u8], NumberType, i128); 16] = [
+const C_NUMBERS: &[(&[u8], NumberType, i128)] = &[
     (b"0", NumberType::Int, 0),
     (b"2147483647", NumberType::Int, 2_147_483_647),
     (b"2147483648", NumberType::LongLong, 2_147_483_648),
@@ -158,13 +158,13 @@ const C_NUMBERS: [(&[u8], NumberType, i128); 16] = [
 
 #[test]
 fn numbers_of_c_have_the_first_type_that_holds_them(rt: HostRuntime) {
-    for (bytes, of, value) in C_NUMBERS {
+    for &(bytes, of, value) in C_NUMBERS {
         assert_eq!(rt; c_number(bytes), CConstant { of, value }, "{bytes:?}");
     }
 }
 
 /// A character with its value as an `int`.
-const CHARACTERS: [(&[u8], i128); 9] = [
+const CHARACTERS: &[(&[u8], i128)] = &[
     (b"'a'", 97),
     (b"'\"'", 34),
     (b"'\\n'", 10),
@@ -178,14 +178,14 @@ const CHARACTERS: [(&[u8], i128); 9] = [
 
 #[test]
 fn characters_are_signed(rt: HostRuntime) {
-    for (bytes, value) in CHARACTERS {
+    for &(bytes, value) in CHARACTERS {
         let of = NumberType::Int;
         assert_eq!(rt; c_character(bytes), CConstant { of, value }, "{bytes:?}");
     }
 }
 
 /// A define with its name, type and value.
-const DEFINES: [(&[u8], &[u8], NumberType, i128); 6] = [
+const DEFINES: &[(&[u8], &[u8], NumberType, i128)] = &[
     (b"#define A 5", b"A", NumberType::Int, 5),
     (b"#define\tB_1 \t-0x10", b"B_1", NumberType::Int, -16),
     (
@@ -211,14 +211,14 @@ const DEFINES: [(&[u8], &[u8], NumberType, i128); 6] = [
 
 #[test]
 fn defines_have_a_name_and_a_value(rt: HostRuntime) {
-    for (bytes, name, of, value) in DEFINES {
+    for &(bytes, name, of, value) in DEFINES {
         assert_eq!(rt; c_define_name(bytes), name, "{bytes:?}");
         assert_eq!(rt; c_define_value(bytes), CConstant { of, value }, "{bytes:?}");
     }
 }
 
 /// A string with the bytes that it stands for.
-const TEXTS: [(&[u8], &[u8]); 5] = [
+const TEXTS: &[(&[u8], &[u8])] = &[
     (b"\"\"", b""),
     (b"\"ab\"", b"ab"),
     (b"\"a\\nb\\t\"", b"a\nb\t"),
@@ -228,7 +228,7 @@ const TEXTS: [(&[u8], &[u8]); 5] = [
 
 #[test]
 fn strings_stand_for_their_bytes(rt: HostRuntime) -> Result<(), Fail> {
-    for (bytes, text) in TEXTS {
+    for &(bytes, text) in TEXTS {
         assert_eq!(rt; text_of(rt.alloc(), bytes)?.as_slice(), text, "{bytes:?}");
     }
     read_back();

@@ -107,7 +107,7 @@ const ALL_INDICES: Range = Range {
 };
 
 /// Leaf, dimensions, and the width, words, cells and bytes by hand; None past a limit.
-const SHAPES: [(Leaf, &[Range], Option<(u32, u32, u32, u32)>); 20] = [
+const SHAPES: &[(Leaf, &[Range], Option<(u32, u32, u32, u32)>)] = &[
     (INT, &[FALLING_10], Some((32, 1, 10, 40))),
     (LOGIC_VEC_33, &[FALLING_2, RISING_3], Some((33, 2, 12, 96))),
     (BYTE, &[], Some((8, 1, 1, 1))),
@@ -136,14 +136,14 @@ const SHAPES: [(Leaf, &[Range], Option<(u32, u32, u32, u32)>); 20] = [
 
 #[test]
 fn sizes_are_those_by_hand_up_to_the_limits(rt: HostRuntime) {
-    for (leaf, dims, wanted) in SHAPES {
+    for &(leaf, dims, wanted) in SHAPES {
         let found = Shape::new(leaf, dims).map(|s| (s.width(), s.words(), s.cells(), s.bytes()));
         assert_eq!(rt; found, wanted, "{leaf:?} {dims:?}");
     }
 }
 
 /// Leaf, dimensions, indices, and the first cell that they name.
-const PLACES: [(Leaf, &[Range], &[i32], Option<u32>); 16] = [
+const PLACES: &[(Leaf, &[Range], &[i32], Option<u32>)] = &[
     (INT, &[FALLING_10], &[-2], Some(0)),
     (INT, &[FALLING_10], &[7], Some(9)),
     (INT, &[FALLING_10], &[8], None),
@@ -174,7 +174,7 @@ const PLACES: [(Leaf, &[Range], &[i32], Option<u32>); 16] = [
 
 #[test]
 fn indices_name_the_cell_by_rising_index(rt: HostRuntime) -> Result<(), Fail> {
-    for (leaf, dims, indices, wanted) in PLACES {
+    for &(leaf, dims, indices, wanted) in PLACES {
         let shape = Shape::new(leaf, dims).ok_or("a shape")?;
         assert!(rt; indices.len() <= shape.dims() as usize);
         assert_eq!(rt;
@@ -187,7 +187,7 @@ fn indices_name_the_cell_by_rising_index(rt: HostRuntime) -> Result<(), Fail> {
 }
 
 /// Leaf, dimensions, cell, and its used bits.
-const MASKS: [(Leaf, &[Range], u32, u64); 13] = [
+const MASKS: &[(Leaf, &[Range], u32, u64)] = &[
     (LOGIC_VEC_33, &[FALLING_2, RISING_3], 11, 1),
     (LOGIC_VEC_33, &[FALLING_2, RISING_3], 10, 0xffff_ffff),
     (LOGIC_VEC_33, &[FALLING_2, RISING_3], 0, 0xffff_ffff),
@@ -205,7 +205,7 @@ const MASKS: [(Leaf, &[Range], u32, u64); 13] = [
 
 #[test]
 fn masks_are_the_bits_of_the_part(rt: HostRuntime) -> Result<(), Fail> {
-    for (leaf, dims, cell, wanted) in MASKS {
+    for &(leaf, dims, cell, wanted) in MASKS {
         let shape = Shape::new(leaf, dims).ok_or("a shape")?;
         assert!(rt; cell < shape.cells());
         assert_eq!(rt; shape.mask_at(cell), wanted, "{leaf:?} {dims:?} {cell}");
@@ -214,7 +214,7 @@ fn masks_are_the_bits_of_the_part(rt: HostRuntime) -> Result<(), Fail> {
 }
 
 /// Two shapes, and whether the cells of the one can stand for those of the other.
-const LAYOUTS: [(Leaf, &[Range], Leaf, &[Range], bool); 14] = [
+const LAYOUTS: &[(Leaf, &[Range], Leaf, &[Range], bool)] = &[
     (BYTE, &[], BIT_VEC_8, &[], true),
     (INT, &[FALLING_2], BIT_VEC_32, &[FALLING_2], true),
     (LONG, &[], BIT_VEC_64, &[], false),
@@ -250,7 +250,7 @@ const LAYOUTS: [(Leaf, &[Range], Leaf, &[Range], bool); 14] = [
 fn layouts_are_alike_by_width_states_words_sizes_and_directions(
     rt: HostRuntime,
 ) -> Result<(), Fail> {
-    for (leaf, dims, other_leaf, other_dims, wanted) in LAYOUTS {
+    for &(leaf, dims, other_leaf, other_dims, wanted) in LAYOUTS {
         let shape = Shape::new(leaf, dims).ok_or("a shape")?;
         let other = Shape::new(other_leaf, other_dims).ok_or("another shape")?;
         assert_eq!(rt; shape.same_layout(&other), wanted, "{shape:?} {other:?}");

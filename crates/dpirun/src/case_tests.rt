@@ -8,8 +8,12 @@ use std::process::Abort;
 use std::test::Fail;
 
 /// SystemVerilog files, each alone, with the line that the program prints of it.
-const SV_CASES: [(&str, &str); 33] = [
+const SV_CASES: &[(&str, &str)] = &[
     ("module m; int w[1][1][1][1]; endmodule", "m.sv:1:25: S8\n"),
+    (
+        "module m; int w[1][1][1][4'd3:0]; endmodule",
+        "m.sv:1:25: S8\n",
+    ),
     (
         "module m; int w[1][1][1]; endmodule",
         "m.sv:1:1: NotBuilt\n",
@@ -147,8 +151,11 @@ const SV_CASES: [(&str, &str); 33] = [
 ];
 
 /// The same of C.
-const C_CASES: [(&str, &str); 27] = [
+const C_CASES: &[(&str, &str)] = &[
     ("int w[65537];", "m.c:1:7: C4\n"),
+    ("int w[n(3)];", "m.c:1:7: C2\n"),
+    ("int f(int w[n(3)]) { return 0; }", "m.c:1:13: C2\n"),
+    ("void n(void); int w[n(3)];", "m.c:1:21: C3\n"),
     ("int f(void) { return 1 = y; }", "m.c:1:26: C2\n"),
     ("int f(int *p) { return p * y; }", "m.c:1:28: C2\n"),
     ("svScope f(void) { return (svScope)y; }", "m.c:1:35: C2\n"),
@@ -208,10 +215,10 @@ const C_CASES: [(&str, &str); 27] = [
 
 #[test]
 fn the_first_place_and_the_least_rule_count(rt: HostRuntime) -> Result<(), Fail> {
-    for (text, line) in SV_CASES {
+    for &(text, line) in SV_CASES {
         check_line(&rt, rt.alloc(), &["m.sv"], Some(text), None, line)?;
     }
-    for (text, line) in C_CASES {
+    for &(text, line) in C_CASES {
         check_line(&rt, rt.alloc(), &["m.c"], None, Some(text), line)?;
     }
     Ok(())

@@ -6,7 +6,7 @@ use crate::tests::check_line;
 use std::test::Fail;
 
 /// SystemVerilog files, each alone: the rules on declarations and on what they hold.
-const SV_DECLARATION_RULES: [(&str, &str); 40] = [
+const SV_DECLARATION_RULES: &[(&str, &str)] = &[
     ("module m; endmodule module m; endmodule", "m.sv:1:28: S1\n"),
     (
         "module m; endmodule module u; endmodule",
@@ -138,7 +138,7 @@ const SV_DECLARATION_RULES: [(&str, &str); 40] = [
 ];
 
 /// SystemVerilog files, each alone: the rules on expressions and statements.
-const SV_STATEMENT_RULES: [(&str, &str); 36] = [
+const SV_STATEMENT_RULES: &[(&str, &str)] = &[
     (
         "module m; int a, b; logic [7:0] v; int w[4]; string s; chandle c; initial a = s + \
          1; endmodule",
@@ -314,7 +314,7 @@ const SV_STATEMENT_RULES: [(&str, &str); 36] = [
 ];
 
 /// C files, each alone.
-const C_RULES: [(&str, &str); 62] = [
+const C_RULES: &[(&str, &str)] = &[
     ("int n; char n;", "m.c:1:13: C1\n"),
     ("int g(int); int g(int k);", "m.c:1:1: NotBuilt\n"),
     ("int f(int n) { char n; return 1; }", "m.c:1:21: C1\n"),
@@ -467,7 +467,7 @@ const C_RULES: [(&str, &str); 62] = [
 
 /// Both files together. The last rows show that C's rules come before those of linking, these in
 /// SystemVerilog files before those in C files, and what is mended of S11 and S14.
-const LINK_RULES: [(&str, &str, &str); 33] = [
+const LINK_RULES: &[(&str, &str, &str)] = &[
     (
         "module m; import \"DPI\" function void f(); endmodule",
         "void f(void) {}",
@@ -652,7 +652,7 @@ const LINK_RULES: [(&str, &str, &str); 33] = [
 
 #[test]
 fn each_rule_on_declarations_stands_at_its_token(rt: HostRuntime) -> Result<(), Fail> {
-    for (text, line) in SV_DECLARATION_RULES {
+    for &(text, line) in SV_DECLARATION_RULES {
         check_line(&rt, rt.alloc(), &["m.sv"], Some(text), None, line)?;
     }
     Ok(())
@@ -660,7 +660,7 @@ fn each_rule_on_declarations_stands_at_its_token(rt: HostRuntime) -> Result<(), 
 
 #[test]
 fn each_rule_on_statements_stands_at_its_token(rt: HostRuntime) -> Result<(), Fail> {
-    for (text, line) in SV_STATEMENT_RULES {
+    for &(text, line) in SV_STATEMENT_RULES {
         check_line(&rt, rt.alloc(), &["m.sv"], Some(text), None, line)?;
     }
     Ok(())
@@ -668,7 +668,7 @@ fn each_rule_on_statements_stands_at_its_token(rt: HostRuntime) -> Result<(), Fa
 
 #[test]
 fn each_rule_of_c_stands_at_its_token(rt: HostRuntime) -> Result<(), Fail> {
-    for (text, line) in C_RULES {
+    for &(text, line) in C_RULES {
         check_line(&rt, rt.alloc(), &["m.c"], None, Some(text), line)?;
     }
     Ok(())
@@ -676,7 +676,7 @@ fn each_rule_of_c_stands_at_its_token(rt: HostRuntime) -> Result<(), Fail> {
 
 #[test]
 fn each_rule_of_linking_stands_at_its_token(rt: HostRuntime) -> Result<(), Fail> {
-    for (sv, c, line) in LINK_RULES {
+    for &(sv, c, line) in LINK_RULES {
         check_line(&rt, rt.alloc(), &["m.sv", "m.c"], Some(sv), Some(c), line)?;
     }
     Ok(())

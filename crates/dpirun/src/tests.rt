@@ -133,7 +133,7 @@ pub(crate) fn answer_of(
 
 /// Words that are no command: there are none, or one of them doesn't end in `.sv` or `.c`, or begins
 /// with `-`.
-const BAD_WORDS: [&[&str]; 10] = [
+const BAD_WORDS: &[&[&str]] = &[
     &[],
     &[""],
     &["m"],
@@ -148,7 +148,7 @@ const BAD_WORDS: [&[&str]; 10] = [
 
 #[test]
 fn other_words_are_bad_words(rt: HostRuntime) -> Result<(), Fail> {
-    for words in BAD_WORDS {
+    for &words in BAD_WORDS {
         check(
             &rt,
             rt.alloc(),
@@ -178,7 +178,7 @@ fn a_command_has_at_most_a_thousand_files(rt: HostRuntime) -> Result<(), Fail> {
 
 /// Both actuals, both operands, and what is printed or where the sum traps. The actuals are the
 /// 32-bit signed values of their digits, so 4294967295 is -1 and 2147483648 is -2147483648.
-const SUMS: [(&str, &str, &str, &str, Came); 9] = [
+const SUMS: &[(&str, &str, &str, &str, Came)] = &[
     ("2", "3", "a", "b", (0, "5\n", "")),
     ("2", "3", "b", "a", (0, "5\n", "")),
     ("2", "3", "a", "a", (0, "4\n", "")),
@@ -210,7 +210,7 @@ const SUMS: [(&str, &str, &str, &str, Came); 9] = [
 
 #[test]
 fn a_sum_is_printed_or_traps_at_its_plus(rt: HostRuntime) -> Result<(), Fail> {
-    for (left, right, first, second, came) in SUMS {
+    for &(left, right, first, second, came) in SUMS {
         let call = format!(in rt.alloc();
             "module m; import \"DPI-C\" function int add(input int a, \
             input int b); initial $display(\"%0d\", add({left},{right})); endmodule"
@@ -232,7 +232,7 @@ fn a_sum_is_printed_or_traps_at_its_plus(rt: HostRuntime) -> Result<(), Fail> {
 
 /// SystemVerilog files that break no rule and aren't of the form: nothing, a module alone, a second
 /// module, another actual, another format, and names that aren't free.
-const OTHER_SV: [&str; 7] = [
+const OTHER_SV: &[&str] = &[
     "",
     "module m; endmodule",
     "module m; import \"DPI-C\" function int add(input int a, input int b); initial $display(\"%0d\", add(2,3)); endmodule module n; endmodule",
@@ -244,7 +244,7 @@ const OTHER_SV: [&str; 7] = [
 
 /// The same of C: another operator, a number for an operand, parentheses, a second function, a
 /// local, and a name that isn't free.
-const OTHER_C: [&str; 6] = [
+const OTHER_C: &[&str] = &[
     "int add(int a, int b) { return a * b; }",
     "int add(int a, int b) { return a + 1; }",
     "int add(int a, int b) { return (a + b); }",
@@ -254,7 +254,7 @@ const OTHER_C: [&str; 6] = [
 ];
 
 /// Files without a token, which aren't one of SystemVerilog and then one of C.
-const OTHER_WORDS: [(&[&str], &str); 5] = [
+const OTHER_WORDS: &[(&[&str], &str)] = &[
     (&["m.sv"], "m.sv:1:1: NotBuilt\n"),
     (&["m.c"], "m.c:1:1: NotBuilt\n"),
     (&["m.c", "m.sv"], "m.c:1:1: NotBuilt\n"),
@@ -264,7 +264,7 @@ const OTHER_WORDS: [(&[&str], &str); 5] = [
 
 #[test]
 fn files_of_another_form_are_not_built(rt: HostRuntime) -> Result<(), Fail> {
-    for sv in OTHER_SV {
+    for &sv in OTHER_SV {
         check(
             &rt,
             rt.alloc(),
@@ -274,7 +274,7 @@ fn files_of_another_form_are_not_built(rt: HostRuntime) -> Result<(), Fail> {
             (1, "", "m.sv:1:1: NotBuilt\n"),
         )?;
     }
-    for c in OTHER_C {
+    for &c in OTHER_C {
         check(
             &rt,
             rt.alloc(),
@@ -284,7 +284,7 @@ fn files_of_another_form_are_not_built(rt: HostRuntime) -> Result<(), Fail> {
             (1, "", "m.sv:1:1: NotBuilt\n"),
         )?;
     }
-    for (words, line) in OTHER_WORDS {
+    for &(words, line) in OTHER_WORDS {
         check(
             &rt,
             rt.alloc(),
@@ -301,7 +301,7 @@ fn files_of_another_form_are_not_built(rt: HostRuntime) -> Result<(), Fail> {
 /// keyword, a closing label that isn't the opened name S7 at the label, and a `return` without a
 /// value in a function that gives one C16 at the keyword. S rules come before C rules, and in a file
 /// the first token counts.
-const BROKEN: [(&[(&str, &str)], &str); 9] = [
+const BROKEN: &[(&[(&str, &str)], &str)] = &[
     (
         &[
             ("m.sv", "module m;\ninitial begin\n  break;\nend\nendmodule"),
@@ -371,7 +371,7 @@ const BROKEN: [(&[(&str, &str)], &str); 9] = [
 
 #[test]
 fn the_first_broken_rule_is_named_where_it_is_broken(rt: HostRuntime) -> Result<(), Fail> {
-    for (texts, line) in BROKEN {
+    for &(texts, line) in BROKEN {
         let mut words = Vec::new(rt.alloc());
         let mut files = MemoryFiles::new(rt.alloc(), Vec::new(rt.alloc()));
         for (name, text) in texts {
@@ -390,7 +390,7 @@ fn the_first_broken_rule_is_named_where_it_is_broken(rt: HostRuntime) -> Result<
 /// the grammar: a byte that no token has, a number with a letter behind its `_` and one that is too
 /// large, a string and a comment without an end; a delay, a keyword for a name, and the end of the
 /// file, which stands behind the last byte.
-const REFUSED_SV: [(&str, &str); 13] = [
+const REFUSED_SV: &[(&str, &str)] = &[
     ("\n\n  $time", "m.sv:3:3: BadByte\n"),
     ("module m; endmodule \u{1}", "m.sv:1:21: BadByte\n"),
     (
@@ -421,7 +421,7 @@ const REFUSED_SV: [(&str, &str); 13] = [
 /// The same of C (ISO C, 6.4): a `$`, another escape, a define of a keyword, a number with an 8
 /// behind a 0, a comment without an end; a parenthesis that isn't closed, a keyword for a name,
 /// `long` alone, and the end of the file.
-const REFUSED_C: [(&str, &str); 11] = [
+const REFUSED_C: &[(&str, &str)] = &[
     ("int $x;", "m.c:1:5: BadByte\n"),
     ("char c = '\\q';", "m.c:1:11: BadByte\n"),
     ("int x;\n#define int 1\n", "m.c:2:1: BadByte\n"),
@@ -446,10 +446,10 @@ const REFUSED_C: [(&str, &str); 11] = [
 
 #[test]
 fn a_file_is_refused_at_its_first_fault(rt: HostRuntime) -> Result<(), Fail> {
-    for (sv, line) in REFUSED_SV {
+    for &(sv, line) in REFUSED_SV {
         check(&rt, rt.alloc(), ADD, Some(sv), None, (1, "", line))?;
     }
-    for (c, line) in REFUSED_C {
+    for &(c, line) in REFUSED_C {
         check(&rt, rt.alloc(), ADD, Some(SV), Some(c), (1, "", line))?;
     }
     Ok(())
@@ -504,7 +504,7 @@ fn level_25_is_too_deep(rt: HostRuntime) -> Result<(), Fail> {
 
 /// The words, the texts that are there, the fetches that fail, and the answer: the first file that
 /// can't be read is named, and a file that is refused hides the ones after it.
-const FAULTS: [(&[&str], Option<&str>, Option<&str>, &[u64], Came); 9] = [
+const FAULTS: &[(&[&str], Option<&str>, Option<&str>, &[u64], Came)] = &[
     (
         &["m.sv", "m.c"],
         None,
@@ -572,7 +572,7 @@ const FAULTS: [(&[&str], Option<&str>, Option<&str>, &[u64], Came); 9] = [
 
 #[test]
 fn a_file_that_is_not_read_is_named(rt: HostRuntime) -> Result<(), Fail> {
-    for (words, sv, c, fetches, came) in FAULTS {
+    for &(words, sv, c, fetches, came) in FAULTS {
         let setting = Setting {
             words,
             fetches,
@@ -585,7 +585,7 @@ fn a_file_that_is_not_read_is_named(rt: HostRuntime) -> Result<(), Fail> {
 
 /// The words, the writes to both sinks that fail, the most bytes of one write (0: no limit), and
 /// what came: nothing that was taken is lost, and the last line is tried once.
-const WRITES: [(&[&str], &[u64], &[u64], usize, Came); 8] = [
+const WRITES: &[(&[&str], &[u64], &[u64], usize, Came)] = &[
     (&["m.sv", "m.c"], &[], &[], 1, (0, "5\n", "")),
     (
         &["m.sv", "m.c"],
@@ -610,7 +610,7 @@ const WRITES: [(&[&str], &[u64], &[u64], usize, Came); 8] = [
 
 #[test]
 fn a_sink_that_fails_keeps_what_it_took(rt: HostRuntime) -> Result<(), Fail> {
-    for (words, outs, errs, most, came) in WRITES {
+    for &(words, outs, errs, most, came) in WRITES {
         let most = if most == 0 { None } else { Some(most) };
         check(
             &rt,

@@ -25,7 +25,7 @@ const INT: Leaf = Leaf::Int { signed: true };
 const FOUR: Range = Range { left: 3, right: 0 };
 
 /// The types that go by value, and what they are in C.
-const NUMBERS: [(Leaf, CBase); 11] = [
+const NUMBERS: &[(Leaf, CBase)] = &[
     (BYTE, CBase::Char),
     (BYTE, CBase::UnsignedChar),
     (Leaf::Byte { signed: false }, CBase::UnsignedChar),
@@ -41,7 +41,7 @@ const NUMBERS: [(Leaf, CBase); 11] = [
 
 #[test]
 fn numbers_go_by_value_and_come_back_by_pointer(rt: HostRuntime) {
-    for (leaf, base) in NUMBERS {
+    for &(leaf, base) in NUMBERS {
         let kind = VarKind::Cells(Shape::new(leaf, &[]).expect(&rt, "a shape"));
         let result = Returns::Value(Some(kind));
         assert!(rt;
@@ -75,7 +75,7 @@ fn numbers_go_by_value_and_come_back_by_pointer(rt: HostRuntime) {
 }
 
 /// The cells of vectors and arrays: leaf, whether there is a dimension, and the C type of a cell.
-const CELLS: [(Leaf, bool, CBase); 6] = [
+const CELLS: &[(Leaf, bool, CBase)] = &[
     (
         Leaf::BitVec {
             range: FOUR,
@@ -107,7 +107,7 @@ const CELLS: [(Leaf, bool, CBase); 6] = [
 
 #[test]
 fn vectors_and_arrays_go_by_a_pointer_to_cells(rt: HostRuntime) {
-    for (leaf, array, base) in CELLS {
+    for &(leaf, array, base) in CELLS {
         let dims: &[Range] = if array { &[FOUR] } else { &[] };
         let kind = VarKind::Cells(Shape::new(leaf, dims).expect(&rt, "a shape"));
         assert!(rt;
@@ -135,7 +135,7 @@ fn vectors_and_arrays_go_by_a_pointer_to_cells(rt: HostRuntime) {
 }
 
 /// Texts, chandles and open arrays: formal, direction, C type, and whether it fits.
-const OTHERS: [(FormalKind, Direction, (bool, CBase, u8), bool); 12] = [
+const OTHERS: &[(FormalKind, Direction, (bool, CBase, u8), bool)] = &[
     (
         FormalKind::Sized(VarKind::Text),
         Direction::Input,
@@ -197,7 +197,7 @@ const OPEN: FormalKind = FormalKind::Open {
 
 #[test]
 fn texts_chandles_and_handles_have_their_pointers(rt: HostRuntime) {
-    for (formal, direction, (base_const, base, stars), fits) in OTHERS {
+    for &(formal, direction, (base_const, base, stars), fits) in OTHERS {
         let wanted = of(base_const, base, stars);
         assert_eq!(rt;
             fits_formal(direction, formal, wanted),
@@ -234,7 +234,7 @@ const SINGLE: Leaf = Leaf::BitVec {
 };
 
 /// Two leaf types, and whether they are equal in signatures (IEEE 1800-2017, 35.5.4).
-const LEAVES: [(Leaf, Leaf, bool); 6] = [
+const LEAVES: &[(Leaf, Leaf, bool)] = &[
     (WORD, SHIFTED, true),
     (WORD, WIDER, false),
     (WORD, Leaf::Byte { signed: false }, false),
@@ -249,7 +249,7 @@ const LEAVES: [(Leaf, Leaf, bool); 6] = [
 
 #[test]
 fn equal_kinds_have_equal_leaves_and_sizes(rt: HostRuntime) {
-    for (a, b, same) in LEAVES {
+    for &(a, b, same) in LEAVES {
         let one = VarKind::Cells(Shape::new(a, &[]).expect(&rt, "a shape"));
         let other = VarKind::Cells(Shape::new(b, &[]).expect(&rt, "a shape"));
         assert_eq!(rt; same_kind(one, other), same, "{a:?} {b:?}");

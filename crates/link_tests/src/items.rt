@@ -7,7 +7,7 @@ use std::rt::HostRuntime;
 use sv_tree::{Export, Name, Text};
 
 /// Names, and whether they are a keyword, a type name, `NULL`, `printf` or of `svdpi.h`.
-const NAMES: [(&[u8], bool); 8] = [
+const NAMES: &[(&[u8], bool)] = &[
     (b"int", true),
     (b"svLogicVecVal", true),
     (b"NULL", true),
@@ -20,7 +20,7 @@ const NAMES: [(&[u8], bool); 8] = [
 
 #[test]
 fn names_of_svdpi_and_keywords_are_taken(rt: HostRuntime) {
-    for (name, taken) in NAMES {
+    for &(name, taken) in NAMES {
         assert_eq!(rt; is_taken(name), taken, "{name:?}");
     }
 }

@@ -21,7 +21,7 @@ enum Part {
 
 /// A part, a text, and the number of the token behind the part or the fault, by the grammar in
 /// docs/LANGUAGES.md.
-const PARTS: [(Part, &[u8], Result<u32, Stop>); 24] = [
+const PARTS: &[(Part, &[u8], Result<u32, Stop>)] = &[
     (Part::Name, b"a_1$ b", Ok(1)),
     (Part::Name, b"module", Err(Stop::Syntax(0))),
     (Part::Name, b"$display", Err(Stop::Syntax(0))),
@@ -74,7 +74,7 @@ fn read(alloc: Global, part: Part, tokens: &mut Cursor<'_>) -> Result<u32, Stop>
 
 #[test]
 fn parts_take_their_tokens_or_refuse_the_first_that_is_none(rt: HostRuntime) -> Result<(), Fail> {
-    for (part, text, want) in PARTS {
+    for &(part, text, want) in PARTS {
         assert!(rt; text.len() <= 1_048_576);
         let tokens = sv_tokens(rt.alloc(), text)?;
         let mut cursor = Cursor::new(&tokens);

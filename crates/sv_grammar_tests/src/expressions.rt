@@ -20,7 +20,7 @@ enum Part {
 
 /// A part, a text, and the number of the token behind the part or the refused one, with 24 levels
 /// left, by the grammar in docs/LANGUAGES.md.
-const PARTS: [(Part, &[u8], Result<u32, Stop>); 62] = [
+const PARTS: &[(Part, &[u8], Result<u32, Stop>)] = &[
     (Part::Expr, b"1", Ok(1)),
     (Part::Expr, b"\"s\"", Ok(1)),
     (Part::Expr, b"null == x", Ok(3)),
@@ -87,7 +87,7 @@ const PARTS: [(Part, &[u8], Result<u32, Stop>); 62] = [
 
 /// A part, a text, how many levels are left, and the number of the token behind the part or of the
 /// one that opens a level too many, by the table of levels in docs/LANGUAGES.md.
-const LEVELS: [(Part, &[u8], u32, Result<u32, Stop>); 30] = [
+const LEVELS: &[(Part, &[u8], u32, Result<u32, Stop>)] = &[
     (Part::Expr, b"a + -b", 0, Ok(4)),
     (Part::Expr, b"(a)", 0, Err(Stop::TooDeep(0))),
     (Part::Expr, b"(a)", 1, Ok(3)),
@@ -153,7 +153,7 @@ fn read(alloc: Global, part: Part, tokens: &mut Cursor<'_>, depth: u32) -> Resul
 
 #[test]
 fn parts_take_their_tokens_or_refuse_the_first_that_is_none(rt: HostRuntime) -> Result<(), Fail> {
-    for (part, text, want) in PARTS {
+    for &(part, text, want) in PARTS {
         assert!(rt; text.len() <= 1_048_576);
         let tokens = sv_tokens(rt.alloc(), text)?;
         let mut cursor = Cursor::new(&tokens);
@@ -164,7 +164,7 @@ fn parts_take_their_tokens_or_refuse_the_first_that_is_none(rt: HostRuntime) -> 
 
 #[test]
 fn levels_begin_at_their_tokens(rt: HostRuntime) -> Result<(), Fail> {
-    for (part, text, depth, want) in LEVELS {
+    for &(part, text, depth, want) in LEVELS {
         assert!(rt; text.len() <= 1_048_576);
         let tokens = sv_tokens(rt.alloc(), text)?;
         let mut cursor = Cursor::new(&tokens);

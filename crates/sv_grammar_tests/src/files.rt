@@ -8,7 +8,7 @@ use sv_parse::{ParseFault, files_are_unambiguous, parse};
 use sv_tree::{ImportKind, Item, Outcome, Property, SvFile};
 
 /// Items of a module, of which each needs all its tokens.
-const ITEMS: [&[u8]; 42] = [
+const ITEMS: &[&[u8]] = &[
     b"int x;",
     b"logic signed [7:0] a, b[2][1:0] = '{1, '{2, 3}};",
     b"chandle c = null;",
@@ -55,7 +55,7 @@ const ITEMS: [&[u8]; 42] = [
 
 /// Texts behind `module m;` that go on to no file, and the first token that doesn't fit, counted
 /// from the first one of the text. `endmodule` stands behind each.
-const REFUSED_ITEMS: [(&[u8], u32); 73] = [
+const REFUSED_ITEMS: &[(&[u8], u32)] = &[
     (b"begin end", 0),
     (b";", 0),
     (b"1;", 0),
@@ -132,7 +132,7 @@ const REFUSED_ITEMS: [(&[u8], u32); 73] = [
 ];
 
 /// Files, and the numbers of tokens behind which a shorter one ends.
-const FILES: [(&[u8], &[u32]); 6] = [
+const FILES: &[(&[u8], &[u32])] = &[
     (b"", &[0]),
     (b"module m; endmodule", &[0, 4]),
     (b"module m(); endmodule : m", &[0, 6, 8]),
@@ -148,7 +148,7 @@ const FILES: [(&[u8], &[u32]); 6] = [
 ];
 
 /// Texts that are no files, and the first token that doesn't fit.
-const REFUSED_FILES: [(&[u8], u32); 16] = [
+const REFUSED_FILES: &[(&[u8], u32)] = &[
     (b"int x;", 0),
     (b"; module m; endmodule", 0),
     (b"endmodule", 0),
@@ -170,7 +170,7 @@ const REFUSED_FILES: [(&[u8], u32); 16] = [
 /// Statements that nest: what stands before, the part that is repeated before and after the
 /// middle, and what stands behind; how many levels the middle has, and which token opens
 /// level 25, counted from the first one of the statement.
-const NESTED: [(&[u8], &[u8], &[u8], &[u8], &[u8], u32, u32); 23] = [
+const NESTED: &[(&[u8], &[u8], &[u8], &[u8], &[u8], u32, u32)] = &[
     (b"x = ", b"(", b"1", b")", b";", 0, 26),
     (b"x = ", b"f(", b"1", b")", b";", 0, 51),
     (b"", b"f(", b"1", b")", b";", 0, 49),
@@ -205,7 +205,7 @@ const NESTED: [(&[u8], &[u8], &[u8], &[u8], &[u8], u32, u32); 23] = [
 ];
 
 /// Where a parenthesised expression may stand, and the number of its first token.
-const PLACES: [(&[u8], u32, &[u8]); 5] = [
+const PLACES: &[(&[u8], u32, &[u8])] = &[
     (b"module m; int x = ", 6, b"; endmodule"),
     (b"module m; int x[2] = '{0, 1}, y = ", 17, b"; endmodule"),
     (b"module m; initial x = ", 6, b"; endmodule"),
@@ -218,7 +218,7 @@ const PLACES: [(&[u8], u32, &[u8]); 5] = [
 ];
 
 /// Lists, by what stands before, a part that may be repeated, and what stands behind.
-const LISTS: [(&[u8], &[u8], &[u8]); 9] = [
+const LISTS: &[(&[u8], &[u8], &[u8])] = &[
     (b"", b"module m; endmodule ", b""),
     (b"module m; ", b"int x; ", b"endmodule"),
     (b"module m; ", b"m n(); ", b"endmodule"),
@@ -289,7 +289,7 @@ fn nest(text: &mut Vec<u8>, parts: [&[u8]; 5], count: u32) -> Result<(), Fail> {
 
 #[test]
 fn items_are_read(rt: HostRuntime) -> Result<(), Fail> {
-    for item in ITEMS {
+    for &item in ITEMS {
         let text = joined(rt.alloc(), &[b"module m; ", item, b" endmodule"])?;
         assert!(rt; modules(&rt, rt.alloc(), &text)? == Ok(1), "{item:?}");
     }
@@ -299,7 +299,7 @@ fn items_are_read(rt: HostRuntime) -> Result<(), Fail> {
 /// No file goes on with `@`, and none ends before its last token.
 #[test]
 fn items_are_refused_at_each_token(rt: HostRuntime) -> Result<(), Fail> {
-    for item in ITEMS {
+    for &item in ITEMS {
         assert!(rt; item.len() <= 1_048_576);
         let tokens = sv_tokens(rt.alloc(), item)?;
         for number in 0..tokens.len() + 1 {
@@ -322,7 +322,7 @@ fn items_are_refused_at_each_token(rt: HostRuntime) -> Result<(), Fail> {
 
 #[test]
 fn texts_that_are_no_items_are_refused(rt: HostRuntime) -> Result<(), Fail> {
-    for (item, at) in REFUSED_ITEMS {
+    for &(item, at) in REFUSED_ITEMS {
         assert!(rt; at <= 1_000);
         let text = joined(rt.alloc(), &[b"module m; ", item, b" endmodule"])?;
         let want = Err(ParseFault::Syntax { token: 3 + at });
@@ -333,7 +333,7 @@ fn texts_that_are_no_items_are_refused(rt: HostRuntime) -> Result<(), Fail> {
 
 #[test]
 fn files_are_read_and_refused_at_each_token(rt: HostRuntime) -> Result<(), Fail> {
-    for (file, ends) in FILES {
+    for &(file, ends) in FILES {
         assert!(rt; file.len() <= 1_048_576);
         let tokens = sv_tokens(rt.alloc(), file)?;
         assert!(rt; modules(&rt, rt.alloc(), file)?.is_ok(), "{file:?}");
@@ -353,7 +353,7 @@ fn files_are_read_and_refused_at_each_token(rt: HostRuntime) -> Result<(), Fail>
             }
         }
     }
-    for (text, at) in REFUSED_FILES {
+    for &(text, at) in REFUSED_FILES {
         let want = Err(ParseFault::Syntax { token: at });
         assert!(rt; modules(&rt, rt.alloc(), text)? == want, "{text:?}");
     }
@@ -362,7 +362,7 @@ fn files_are_read_and_refused_at_each_token(rt: HostRuntime) -> Result<(), Fail>
 
 #[test]
 fn level_25_is_refused_where_it_opens(rt: HostRuntime) -> Result<(), Fail> {
-    for (front, before, middle, after, back, levels, at) in NESTED {
+    for &(front, before, middle, after, back, levels, at) in NESTED {
         assert!(rt; levels <= 24 && at <= 1_000);
         for (count, want) in [
             (24 - levels, Ok(1)),
@@ -381,7 +381,7 @@ fn level_25_is_refused_where_it_opens(rt: HostRuntime) -> Result<(), Fail> {
 /// What stands in a body has as many levels as in an initial block, and an initialiser too.
 #[test]
 fn functions_and_declarations_open_no_level(rt: HostRuntime) -> Result<(), Fail> {
-    for (front, at, back) in PLACES {
+    for &(front, at, back) in PLACES {
         assert!(rt; at <= 1_000);
         for (count, want) in [
             (24, Ok(1)),
@@ -397,7 +397,7 @@ fn functions_and_declarations_open_no_level(rt: HostRuntime) -> Result<(), Fail>
 
 #[test]
 fn lists_open_no_level(rt: HostRuntime) -> Result<(), Fail> {
-    for (front, part, back) in LISTS {
+    for &(front, part, back) in LISTS {
         let mut text = Vec::new(rt.alloc());
         nest(&mut text, [front, part, b"", b"", back], 500)?;
         assert!(rt; modules(&rt, rt.alloc(), &text)?.is_ok(), "{front:?}");

@@ -10,7 +10,7 @@ use sv_stmt::{declarations, statement, variables};
 use sv_tree::Stmt;
 
 /// Statements, and the numbers of tokens behind which a shorter one could end.
-const STATEMENTS: [(&[u8], &[u32]); 37] = [
+const STATEMENTS: &[(&[u8], &[u32])] = &[
     (b";", &[]),
     (b"begin end", &[]),
     (b"begin : a end : a", &[4]),
@@ -54,7 +54,7 @@ const STATEMENTS: [(&[u8], &[u32]); 37] = [
 ];
 
 /// Texts that begin no statement, and the token with which none goes on.
-const REFUSED: [(&[u8], u32); 38] = [
+const REFUSED: &[(&[u8], u32)] = &[
     (b"", 0),
     (b"1;", 0),
     (b"int x;", 0),
@@ -96,7 +96,7 @@ const REFUSED: [(&[u8], u32); 38] = [
 ];
 
 /// Declarations.
-const DECLARATIONS: [&[u8]; 5] = [
+const DECLARATIONS: &[&[u8]] = &[
     b"int x;",
     b"logic signed [7:0] a, b[2], c[1:0][-1:3] = 1;",
     b"string s = \"a\";",
@@ -105,7 +105,7 @@ const DECLARATIONS: [&[u8]; 5] = [
 ];
 
 /// Texts that begin no declaration, and the token with which none goes on.
-const UNDECLARED: [(&[u8], u32); 8] = [
+const UNDECLARED: &[(&[u8], u32)] = &[
     (b"x y;", 0),
     (b"int;", 1),
     (b"int x", 2),
@@ -117,7 +117,7 @@ const UNDECLARED: [(&[u8], u32); 8] = [
 ];
 
 /// Statements with their levels, and the token that opens the last of these.
-const LEVELS: [(&[u8], u32, u32); 25] = [
+const LEVELS: &[(&[u8], u32, u32)] = &[
     (b"begin end", 1, 0),
     (b"begin int x; ; ; end", 1, 0),
     (b"begin begin end end", 2, 1),
@@ -146,7 +146,7 @@ const LEVELS: [(&[u8], u32, u32); 25] = [
 ];
 
 /// Statements that open no level.
-const FLAT: [&[u8]; 9] = [
+const FLAT: &[&[u8]] = &[
     b";",
     b"a;",
     b"a++;",
@@ -196,7 +196,7 @@ fn cut(alloc: Global, text: &[u8], end: u32) -> Result<Vec<u8>, Fail> {
 
 #[test]
 fn statements_are_read_to_their_end(rt: HostRuntime) -> Result<(), Fail> {
-    for (text, _) in STATEMENTS {
+    for &(text, _) in STATEMENTS {
         assert!(rt; text.len() <= 1_048_576);
         let tokens = sv_tokens(rt.alloc(), text)?;
         assert!(rt;
@@ -209,7 +209,7 @@ fn statements_are_read_to_their_end(rt: HostRuntime) -> Result<(), Fail> {
 
 #[test]
 fn statements_are_refused_at_each_wrong_token(rt: HostRuntime) -> Result<(), Fail> {
-    for (text, ends) in STATEMENTS {
+    for &(text, ends) in STATEMENTS {
         assert!(rt; text.len() <= 1_048_576);
         let tokens = sv_tokens(rt.alloc(), text)?;
         for number in 0..tokens.len() {
@@ -232,7 +232,7 @@ fn statements_are_refused_at_each_wrong_token(rt: HostRuntime) -> Result<(), Fai
 
 #[test]
 fn texts_that_begin_no_statement_are_refused(rt: HostRuntime) -> Result<(), Fail> {
-    for (text, at) in REFUSED {
+    for &(text, at) in REFUSED {
         assert!(rt; text.len() <= 1_048_576);
         let tokens = sv_tokens(rt.alloc(), text)?;
         assert!(rt;
@@ -245,7 +245,7 @@ fn texts_that_begin_no_statement_are_refused(rt: HostRuntime) -> Result<(), Fail
 
 #[test]
 fn declarations_are_read_and_refused(rt: HostRuntime) -> Result<(), Fail> {
-    for text in DECLARATIONS {
+    for &text in DECLARATIONS {
         assert!(rt; text.len() <= 1_048_576);
         let tokens = sv_tokens(rt.alloc(), text)?;
         assert!(rt;
@@ -263,7 +263,7 @@ fn declarations_are_read_and_refused(rt: HostRuntime) -> Result<(), Fail> {
             );
         }
     }
-    for (text, at) in UNDECLARED {
+    for &(text, at) in UNDECLARED {
         assert!(rt; text.len() <= 1_048_576);
         let tokens = sv_tokens(rt.alloc(), text)?;
         let want = Err(Stop::Syntax(at));
@@ -287,7 +287,7 @@ fn declarations_end_before_what_is_no_type(rt: HostRuntime) -> Result<(), Fail> 
 
 #[test]
 fn levels_are_counted_from_their_tokens(rt: HostRuntime) -> Result<(), Fail> {
-    for (text, levels, at) in LEVELS {
+    for &(text, levels, at) in LEVELS {
         assert!(rt; text.len() <= 1_048_576 && levels > 0);
         let tokens = sv_tokens(rt.alloc(), text)?;
         assert!(rt;
@@ -297,7 +297,7 @@ fn levels_are_counted_from_their_tokens(rt: HostRuntime) -> Result<(), Fail> {
         let want = Err(Stop::TooDeep(at));
         assert!(rt; end_of(rt.alloc(), &tokens, levels - 1) == want, "{text:?}");
     }
-    for text in FLAT {
+    for &text in FLAT {
         assert!(rt; text.len() <= 1_048_576);
         let tokens = sv_tokens(rt.alloc(), text)?;
         assert!(rt;

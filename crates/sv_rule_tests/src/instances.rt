@@ -75,7 +75,7 @@ fn child(
 }
 
 /// The instances of the design below, in preorder: their modules and names.
-const LISTED: [(usize, &[u8]); 4] = [(0, b"t"), (1, b"t.a"), (2, b"t.a.c"), (2, b"t.b")];
+const LISTED: &[(usize, &[u8])] = &[(0, b"t"), (1, b"t.a"), (2, b"t.a.c"), (2, b"t.b")];
 
 #[test]
 fn a_child_stands_behind_its_parent(rt: HostRuntime) -> Result<(), NoMemory> {

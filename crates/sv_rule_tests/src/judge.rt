@@ -44,7 +44,7 @@ fn named(leaf: Leaf, dims: &[Range], taken: u32) -> Option<Selected> {
 
 /// A leaf of a variable, or of an array of which an element is selected, and the rule that a name
 /// breaks as an actual of `input bit []`.
-const NAMED: [(Leaf, bool, Option<u8>); 4] = [
+const NAMED: &[(Leaf, bool, Option<u8>)] = &[
     (BITS, false, None),
     (BITS, true, None),
     (BYTE, false, Some(14)),
@@ -54,7 +54,7 @@ const NAMED: [(Leaf, bool, Option<u8>); 4] = [
 #[test]
 fn an_element_is_as_plain_as_a_variable(rt: HostRuntime) {
     let one = [Range { left: 0, right: 3 }];
-    for (leaf, element, rule) in NAMED {
+    for &(leaf, element, rule) in NAMED {
         let selected = if element {
             named(leaf, &one, 1)
         } else {

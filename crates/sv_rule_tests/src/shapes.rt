@@ -33,7 +33,7 @@ const NAME: u32 = 50;
 
 /// A type with its unpacked dimensions, and what IEEE 1800-2017, 6 and 7.4, and the limits make of
 /// it. Tokens are counted from 0 by hand.
-const VARIABLES: [(&[u8], Told); 26] = [
+const VARIABLES: &[(&[u8], Told)] = &[
     (b"int", Told::Cells(32, 0, 1)),
     (b"integer", Told::Cells(32, 0, 1)),
     (b"bit [1023:0]", Told::Cells(1024, 0, 32)),
@@ -63,7 +63,7 @@ const VARIABLES: [(&[u8], Told); 26] = [
 ];
 
 /// The same of formals of imports, by 35.5.6.1.
-const FORMALS: [(&[u8], Told); 13] = [
+const FORMALS: &[(&[u8], Told)] = &[
     (b"int [4]", Told::Cells(32, 1, 4)),
     (b"string", Told::Text),
     (b"int []", Told::Open(1, 1)),
@@ -136,7 +136,7 @@ fn formal(alloc: Global, tokens: &mut Cursor<'_>) -> Told {
 
 #[test]
 fn variables_have_the_kind_of_their_type_and_dimensions(rt: HostRuntime) -> Result<(), Fail> {
-    for (text, want) in VARIABLES {
+    for &(text, want) in VARIABLES {
         assert!(rt; text.len() <= 1_048_576);
         let tokens = sv_tokens(rt.alloc(), text)?;
         let mut cursor = Cursor::new(&tokens);
@@ -147,7 +147,7 @@ fn variables_have_the_kind_of_their_type_and_dimensions(rt: HostRuntime) -> Resu
 
 #[test]
 fn formals_of_imports_may_be_open_arrays(rt: HostRuntime) -> Result<(), Fail> {
-    for (text, want) in FORMALS {
+    for &(text, want) in FORMALS {
         assert!(rt; text.len() <= 1_048_576);
         let tokens = sv_tokens(rt.alloc(), text)?;
         let mut cursor = Cursor::new(&tokens);

@@ -48,14 +48,16 @@ abbrev pub ranges_of : List Dimension → Option (List Range)
 ranges_of [] = Some []
 ranges_of (d ∷ ds) = joined_range (dimension_range d) (ranges_of ds)
 
--- at a dimension: its `[` where it passes a limit, else what the ones behind it come to; nothing where it has no range
+-- at a dimension: its `[` where there is no room for it or it has too many cells, else what the ones behind it come to; no
+-- cells are counted where it has no range
 abbrev pub limit_at : ℕ → ℕ → ℕ → Option Range → (ℕ → Option ℕ) → Option ℕ
-limit_at room cells token None behind = None
+limit_at room cells token None behind = if nat_lt 0 room then None else Some token
 limit_at room cells token (Some r) behind =
     if nat_lt 0 room && nat_le (cells * size r) MOST_CELLS then behind (cells * size r) else Some token
 
 -- The `[` of the first dimension with which a limit is passed: there is room for so many more dimensions, and one element of
--- these dimensions has so many cells. Behind a dimension without a range no limit is looked at.
+-- these dimensions has so many cells. A dimension without a range takes room too; behind it no limit is looked at, since what
+-- it breaks itself stands before.
 abbrev pub limit_token : ℕ → ℕ → List Dimension → Option ℕ
 limit_token room cells [] = None
 limit_token room cells (d ∷ ds) = limit_at room cells (bracket d) (dimension_range d) (λ more. limit_token (room - 1) more ds)

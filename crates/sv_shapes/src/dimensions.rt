@@ -78,14 +78,16 @@ pub fn note_dimensions(file: u32, dimensions: &[Dimension], found: &mut Option<V
 }
 
 /// The `[` of the first dimension with which a limit is passed, where there is room for so many
-/// dimensions and an element has so many cells. A dimension without a range ends the search.
+/// dimensions and an element has so many cells. A dimension without a range takes room, and ends
+/// the search: what it breaks itself stands before what those behind it pass.
 pub(crate) fn limit_token(room: usize, cells: u64, dimensions: &[Dimension]) -> Option<u32>
     ensures { result ≡ spec.limit_token room cells dimensions.now }
 {
     match dimensions {
         [] => None,
         [first, more @ ..] => match dimension_range(first) {
-            None => None,
+            None if room > 0 => None,
+            None => Some(bracket(first)),
             Some(range) => {
                 let cells = cells as u128 * range.size() as u128;
                 if room > 0 && cells <= MOST_CELLS as u128 {

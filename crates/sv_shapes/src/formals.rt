@@ -182,7 +182,8 @@ pub(crate) fn formal_limit(room: usize, cells: u64, dimensions: &[ImportDimensio
                 }
             }
             ImportDimension::Sized(dimension) => match dimension_range(dimension) {
-                None => None,
+                None if room > 0 => None,
+                None => Some(bracket(dimension)),
                 Some(range) => {
                     let cells = cells as u128 * range.size() as u128;
                     if room > 0 && cells <= MOST_CELLS as u128 {

@@ -21,7 +21,7 @@ enum Part {
 
 /// A part, a text, and the number of the token behind the part or the fault, by the grammar in
 /// docs/LANGUAGES.md.
-const PARTS: [(Part, &[u8], Result<u32, Stop>); 44] = [
+const PARTS: &[(Part, &[u8], Result<u32, Stop>)] = &[
     (Part::Type, b"bit", Ok(1)),
     (Part::Type, b"logic signed [7:0] x", Ok(7)),
     (Part::Type, b"reg [-1:-8]", Ok(8)),
@@ -94,7 +94,7 @@ fn read(alloc: Global, part: Part, tokens: &mut Cursor<'_>) -> Result<u32, Stop>
 
 #[test]
 fn types_take_their_tokens_or_refuse_the_first_that_is_none(rt: HostRuntime) -> Result<(), Fail> {
-    for (part, text, want) in PARTS {
+    for &(part, text, want) in PARTS {
         assert!(rt; text.len() <= 1_048_576);
         let tokens = sv_tokens(rt.alloc(), text)?;
         let mut cursor = Cursor::new(&tokens);

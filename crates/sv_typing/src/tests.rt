@@ -44,7 +44,7 @@ fn type_of(operand: Option<Operand>) -> Option<ExprType> {
 }
 
 /// An operator, its operands, and the type of the whole, or None and the rule that is broken.
-const OPERATORS: [(BinaryOperator, Packed, Packed, Option<Packed>, u8); 12] = [
+const OPERATORS: &[(BinaryOperator, Packed, Packed, Option<Packed>, u8)] = &[
     (
         BinaryOperator::Plus,
         (8, true, false),
@@ -133,7 +133,7 @@ const OPERATORS: [(BinaryOperator, Packed, Packed, Option<Packed>, u8); 12] = [
 
 #[test]
 fn operators_give_types(rt: HostRuntime) {
-    for (operator, left, right, whole, rule) in OPERATORS {
+    for &(operator, left, right, whole, rule) in OPERATORS {
         let mut found = None;
         let binary = Binary {
             file: 0,
@@ -156,7 +156,7 @@ fn operators_give_types(rt: HostRuntime) {
 
 /// What stands behind `a + b` of 32 bits, whose `+` is token 1: an operator, token 3, and a width;
 /// and the token at which rule 16 is broken.
-const CHAINS: [(BinaryOperator, u32, Option<u32>); 6] = [
+const CHAINS: &[(BinaryOperator, u32, Option<u32>)] = &[
     (BinaryOperator::Plus, 32, None),
     // both operators work at 100 bits
     (BinaryOperator::Plus, 100, Some(1)),
@@ -181,7 +181,7 @@ fn contexts_reach_arithmetic(rt: HostRuntime) -> Result<(), Fail> {
         token: 1,
         operator: BinaryOperator::Plus,
     };
-    for (operator, width, token) in CHAINS {
+    for &(operator, width, token) in CHAINS {
         let second = Binary {
             file: 0,
             token: 3,
@@ -205,7 +205,7 @@ fn contexts_reach_arithmetic(rt: HostRuntime) -> Result<(), Fail> {
 }
 
 /// A prefix, its operand, and the type of the whole, or None and the rule that is broken.
-const PREFIXES: [(UnaryOperator, Packed, Option<Packed>, u8); 5] = [
+const PREFIXES: &[(UnaryOperator, Packed, Option<Packed>, u8)] = &[
     (
         UnaryOperator::Minus,
         (8, true, false),
@@ -235,7 +235,7 @@ const PREFIXES: [(UnaryOperator, Packed, Option<Packed>, u8); 5] = [
 
 #[test]
 fn prefixes_give_types(rt: HostRuntime) {
-    for (operator, operand, whole, rule) in PREFIXES {
+    for &(operator, operand, whole, rule) in PREFIXES {
         let mut found = None;
         let result = prefixed(0, 1, operator, packed(operand), &mut found);
         let expected = match whole {
@@ -268,7 +268,7 @@ fn conditionals_have_the_wider_branch(rt: HostRuntime) {
 }
 
 /// Widths of parts, whether the last is a number without a size, a count, and the width or the rule.
-const JOINTS: [([u32; 2], bool, Option<u32>, Option<u32>, u8); 6] = [
+const JOINTS: &[([u32; 2], bool, Option<u32>, Option<u32>, u8)] = &[
     ([8, 3], false, Some(1), Some(11), 0),
     ([8, 3], false, Some(3), Some(33), 0),
     ([1000, 24], false, Some(1), Some(1024), 0),
@@ -279,7 +279,7 @@ const JOINTS: [([u32; 2], bool, Option<u32>, Option<u32>, u8); 6] = [
 
 #[test]
 fn concatenations_have_the_sum(rt: HostRuntime) {
-    for (widths, bare, count, width, rule) in JOINTS {
+    for &(widths, bare, count, width, rule) in JOINTS {
         let parts = [
             Joint {
                 operand: packed((widths[0], true, false)),
@@ -315,7 +315,7 @@ fn concatenations_have_the_sum(rt: HostRuntime) {
 }
 
 /// A declared range, the bounds of a part, and whether it can be selected.
-const PARTS: [([i32; 2], [i32; 2], bool); 7] = [
+const PARTS: &[([i32; 2], [i32; 2], bool)] = &[
     ([7, 0], [3, 0], true),
     ([7, 0], [0, 3], false),
     ([0, 7], [2, 5], true),
@@ -327,7 +327,7 @@ const PARTS: [([i32; 2], [i32; 2], bool); 7] = [
 
 #[test]
 fn parts_stand_in_the_declared_direction(rt: HostRuntime) {
-    for (range, bounds, fits) in PARTS {
+    for &(range, bounds, fits) in PARTS {
         let range = Range {
             left: range[0],
             right: range[1],
