@@ -1,4 +1,4 @@
-//! Trees of C with what its rules say of them: what each rule refuses, and what checked files tell of
+//! Texts of C with what its rules say of them: what each rule refuses, and what checked files tell of
 //! functions, objects, names and types (ISO C17, 6.2 to 6.9, 7.21.6).
 #![tactic(auto)]
 
@@ -26,6 +26,8 @@ mod meanings;
 mod printf;
 #[cfg(test)]
 mod program;
+#[cfg(test)]
+mod read;
 #[cfg(test)]
 mod typing;
 #[cfg(test)]

@@ -1,162 +1,67 @@
-//! Files with one declaration each, whose trees are built by hand, and what is told of them.
-
-use c_base::{CBase, CType as Type};
+//! Files with one declaration each, and what is told of them.
+use crate::read;
+use c_base::{CBase, CType};
 use c_facts::{CFact, CMeant};
 use c_lookup::{CLookup, CMeaning};
 use c_program::{CFunction, CObject, Life};
-use c_tree::{
-    BaseWord, Body, CExpr, CFile, CType, Chain, Cond, Declarator, External, Function, Name, Number,
-    Operand, Params, Primary, Store, StoreKind, Variables,
-};
-use dpi_ports::NoMemory;
 use sqlite_items::Items;
-use std::alloc::{AllocError, Global};
-use std::rt::HostRuntime;
+use std::alloc::Global;
+use std::process::Abort;
 
-/// `int`
-fn int_type(alloc: Global) -> Result<CType, AllocError> {
-    Ok(CType {
-        token: 0,
-        before: Items::new(alloc),
-        base: Items::from_slice(alloc, &[BaseWord::Int])?,
-        behind: Items::new(alloc),
-    })
-}
-
-fn name(alloc: Global, token: u32, bytes: &[u8]) -> Result<Name, AllocError> {
-    Ok(Name {
-        token,
-        bytes: Items::from_slice(alloc, bytes)?,
-    })
-}
-
-fn file(alloc: Global, external: External) -> Result<CFile, AllocError> {
-    let mut externals = Items::new(alloc);
-    externals.push(external)?;
-    Ok(CFile { externals })
-}
-
-/// `int x ;`, with `extern` or not; the name is token 2.
-fn variable(alloc: Global, store: Option<Store>) -> Result<CFile, AllocError> {
-    let mut declarators = Items::new(alloc);
-    declarators.push(Declarator {
-        stars: Items::new(alloc),
-        name: name(alloc, 2, b"x")?,
-        array: None,
-        initializer: None,
-    })?;
-    let variables = Variables {
-        store,
-        kind: int_type(alloc)?,
-        declarators,
-    };
-    file(alloc, External::Variables(variables))
-}
-
-/// `int f ( void ) ;`
-fn prototype(alloc: Global) -> Result<CFile, AllocError> {
-    let function = Function {
-        store: None,
-        kind: int_type(alloc)?,
-        stars: Items::new(alloc),
-        name: name(alloc, 1, b"f")?,
-        token: 2,
-        params: Params::Void(3),
-        body: Body::Prototype(5),
-    };
-    file(alloc, External::Function(function))
-}
-
-/// Facts of a file.
-fn told(alloc: Global, facts: &[CFact]) -> Result<Vec<Vec<CFact>>, NoMemory> {
+/// The facts of a file that tells one.
+fn told(rt: &impl Abort, alloc: Global, fact: CFact) -> Vec<CFact> {
     let mut list = Vec::new(alloc);
-    for fact in facts {
-        list.push(*fact)?;
-    }
-    let mut files = Vec::new(alloc);
-    files.push(list)?;
-    Ok(files)
+    list.push(fact).expect(rt, "memory is ample");
+    list
 }
 
 #[test]
-fn an_extern_object_is_what_another_file_defines(rt: HostRuntime) -> Result<(), NoMemory> {
+fn an_extern_object_is_what_another_file_defines(rt: HostRuntime) {
     let alloc = rt.alloc();
-    let store = Store {
-        token: 0,
-        kind: StoreKind::Extern,
-    };
-    let files = [variable(alloc, Some(store))?, variable(alloc, None)?];
     let object = CObject {
         file: 1,
-        token: 2,
-        kind: Type::plain(CBase::Int),
+        token: 1,
+        kind: CType::plain(CBase::Int),
         cells: 1,
         writable: true,
         life: Life::File,
     };
-    let facts = told(alloc, &[CFact::Name(2, CMeant::Object(2))])?;
-    assert!(rt; facts.len() <= 1000);
-    let lookup = CLookup::of(alloc, &files, &facts, &[], &[object])?;
-    assert_eq!(rt; lookup.meaning(0, 2), Some(CMeaning::Object(0)));
-    assert_eq!(rt; lookup.meaning(0, 1), None);
-    assert_eq!(rt; lookup.meaning(1, 2), None);
-    Ok(())
+    let facts = [told(&rt, alloc, CFact::Name(2, CMeant::Object(2)))];
+    let first = read::file(&rt, alloc, b"extern int x;");
+    let files = [first, read::file(&rt, alloc, b"int x;")];
+    let lookup = CLookup::of(alloc, &files, &facts, &[], &[object]).expect(&rt, "memory is ample");
+    assert!(rt; lookup.meaning(0, 2) == Some(CMeaning::Object(0)));
+    assert!(rt; lookup.meaning(0, 1).is_none());
+    assert!(rt; lookup.meaning(1, 2).is_none());
 }
 
 #[test]
-fn a_function_has_one_number_at_each_prototype(rt: HostRuntime) -> Result<(), NoMemory> {
+fn a_function_has_one_number_at_each_prototype(rt: HostRuntime) {
     let alloc = rt.alloc();
-    let files = [prototype(alloc)?, prototype(alloc)?];
-    let mut functions = Vec::new(alloc);
-    functions.push(CFunction {
+    let functions = [CFunction {
         file: 1,
         token: 1,
-        name: Items::from_slice(alloc, b"f")?,
-        result: Type::plain(CBase::Int),
+        name: Items::from_slice(alloc, b"f").expect(&rt, "memory is ample"),
+        result: CType::plain(CBase::Int),
         params: Items::new(alloc),
         has_body: false,
-    })?;
-    let facts = told(alloc, &[CFact::Name(1, CMeant::Function(1))])?;
-    assert!(rt; facts.len() <= 1000);
-    let lookup = CLookup::of(alloc, &files, &facts, &functions, &[])?;
-    assert_eq!(rt; lookup.meaning(0, 1), Some(CMeaning::Function(0)));
-    Ok(())
-}
-
-/// `1`, at this token.
-fn one(alloc: Global, token: u32) -> Result<CExpr, AllocError> {
-    let first = Operand {
-        token,
-        prefixes: Items::new(alloc),
-        primary: Primary::Number(Number {
-            token,
-            bytes: Items::from_slice(alloc, b"1")?,
-        }),
-        suffixes: Items::new(alloc),
-    };
-    Ok(CExpr {
-        token,
-        first: Cond {
-            token,
-            chain: Chain {
-                token,
-                first,
-                rest: Items::new(alloc),
-            },
-            choice: None,
-        },
-        rest: Items::new(alloc),
-    })
+    }];
+    let facts = [told(&rt, alloc, CFact::Name(1, CMeant::Function(1)))];
+    let first = read::file(&rt, alloc, b"int f(void);");
+    let files = [first, read::file(&rt, alloc, b"int f(void);")];
+    let lookup = CLookup::of(alloc, &files, &facts, &functions, &[]).expect(&rt, "memory is ample");
+    assert!(rt; lookup.meaning(0, 1) == Some(CMeaning::Function(0)));
 }
 
 #[test]
-fn a_type_is_found_at_the_first_token(rt: HostRuntime) -> Result<(), NoMemory> {
+fn a_type_is_found_at_the_first_token(rt: HostRuntime) {
     let alloc = rt.alloc();
-    let int = Type::plain(CBase::Int);
-    let facts = told(alloc, &[CFact::Type(7, int)])?;
-    assert!(rt; facts.len() <= 1000);
-    let lookup = CLookup::of(alloc, &[], &facts, &[], &[])?;
-    assert_eq!(rt; lookup.type_of(0, &one(alloc, 7)?), Some(int));
-    assert_eq!(rt; lookup.type_of(0, &one(alloc, 8)?), None);
-    Ok(())
+    let tree = read::file(&rt, alloc, b"int x = 1, y = 1;");
+    let first = read::value(&tree, 0).expect(&rt, "a value");
+    let second = read::value(&tree, 1).expect(&rt, "a value");
+    let int = CType::plain(CBase::Int);
+    let facts = [told(&rt, alloc, CFact::Type(3, int))];
+    let lookup = CLookup::of(alloc, &[], &facts, &[], &[]).expect(&rt, "memory is ample");
+    assert!(rt; lookup.type_of(0, first) == Some(int));
+    assert!(rt; lookup.type_of(0, second).is_none());
 }

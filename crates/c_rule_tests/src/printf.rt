@@ -27,7 +27,7 @@ fn arguments_fit_their_letters(rt: HostRuntime) {
         };
         let arguments = [Some(Operand::value(of))];
         let given = text_fits(rt.alloc(), text, &arguments);
-        assert_eq!(rt; given.is_ok_and(|given| given == fits), true, "{text:?}");
+        assert!(rt; given == Ok(fits), "{text:?}");
     }
 }
 

@@ -55,6 +55,14 @@ fn broken(rule: u8) -> Violation {
     }
 }
 
+/// What an operation gives: a value, or a broken rule.
+fn wanted(row: Option<Row>, rule: u8) -> (Option<Operand>, Option<Violation>) {
+    match row {
+        Some(row) => (Some(operand(row, Form::Value)), None),
+        None => (None, Some(broken(rule))),
+    }
+}
+
 /// The type of a value, the type to which it goes, and whether ISO C 6.5.16.1 lets it.
 const CONVERSIONS: &[(Row, Row, bool)] = &[
     (INT, UNSIGNED, true),
@@ -73,7 +81,7 @@ const CONVERSIONS: &[(Row, Row, bool)] = &[
 fn conversion_keeps_const_and_type(rt: HostRuntime) {
     for &(from, to, holds) in CONVERSIONS {
         let value = operand(from, Form::Value);
-        assert_eq!(rt; converts(value, of(to)), holds, "{from:?} {to:?}");
+        assert!(rt; converts(value, of(to)) == holds, "{from:?} {to:?}");
     }
 }
 
@@ -105,20 +113,10 @@ fn operators_take_their_operands(rt: HostRuntime) {
         let left = Some(operand(a, Form::Value));
         let right = Some(operand(b, Form::Value));
         let given = binary(PLACE, operator, left, right, &mut found);
-        match expected {
-            Some(row) => {
-                assert_eq!(rt;
-                    given,
-                    Some(operand(row, Form::Value)),
-                    "{operator:?} {a:?} {b:?}"
-                );
-                assert_eq!(rt; found, None, "{operator:?} {a:?} {b:?}");
-            }
-            None => {
-                assert_eq!(rt; given, None, "{operator:?} {a:?} {b:?}");
-                assert_eq!(rt; found, Some(broken(10)), "{operator:?} {a:?} {b:?}");
-            }
-        }
+        assert!(rt;
+            (given, found) == wanted(expected, 10),
+            "{operator:?} {a:?} {b:?}"
+        );
     }
 }
 
@@ -137,9 +135,11 @@ fn prefixes_refuse_by_their_rules(rt: HostRuntime) {
     for &(row, form, operator, rule) in PREFIXES {
         let mut found = None;
         let given = unary(PLACE, operator, Some(operand(row, form)), &mut found);
-        assert_eq!(rt; given.is_some(), rule == 0, "{row:?} {operator:?}");
         let expected = if rule == 0 { None } else { Some(broken(rule)) };
-        assert_eq!(rt; found, expected, "{row:?} {operator:?}");
+        assert!(rt;
+            given.is_some() == (rule == 0) && found == expected,
+            "{row:?} {operator:?}"
+        );
     }
 }
 
@@ -152,7 +152,7 @@ fn operand_without_type_is_passed_over(rt: HostRuntime) {
     assert!(rt; cast(PLACE, Some(of(SCOPE)), None, &mut found).is_none());
     assert!(rt; step(PLACE, None, &mut found).is_none());
     assert!(rt; dot(PLACE, b"x", None, &mut found).is_none());
-    assert_eq!(rt; found, None);
+    assert!(rt; found.is_none());
 }
 
 /// A target, an operator, the type of a value, and the rule that is broken, or 0 (ISO C 6.5.16).
@@ -172,17 +172,11 @@ fn assignment_stores_into_objects(rt: HostRuntime) {
         let left = Some(operand(row, form));
         let right = Some(operand(value, Form::Value));
         let given = assignment(PLACE, PLACE, operator, left, right, &mut found);
-        if rule == 0 {
-            assert_eq!(rt;
-                given,
-                Some(operand(row, Form::Value)),
-                "{row:?} {operator:?}"
-            );
-            assert_eq!(rt; found, None, "{row:?} {operator:?}");
-        } else {
-            assert_eq!(rt; given, None, "{row:?} {operator:?}");
-            assert_eq!(rt; found, Some(broken(rule)), "{row:?} {operator:?}");
-        }
+        let expected = if rule == 0 { Some(row) } else { None };
+        assert!(rt;
+            (given, found) == wanted(expected, rule),
+            "{row:?} {operator:?}"
+        );
     }
 }
 
@@ -202,10 +196,6 @@ fn branches_go_together(rt: HostRuntime) {
         let yes = Some(operand(a, Form::Value));
         let no = Some(operand(b, Form::Value));
         let given = choice(PLACE, PLACE, condition, yes, no, &mut found);
-        assert_eq!(rt; found.is_none(), expected.is_some(), "{a:?} {b:?}");
-        match expected {
-            Some(row) => assert_eq!(rt; given, Some(operand(row, Form::Value)), "{a:?} {b:?}"),
-            None => assert_eq!(rt; given, None, "{a:?} {b:?}"),
-        }
+        assert!(rt; (given, found) == wanted(expected, 10), "{a:?} {b:?}");
     }
 }

@@ -44,33 +44,16 @@ fn numbers_go_by_value_and_come_back_by_pointer(rt: HostRuntime) {
     for &(leaf, base) in NUMBERS {
         let kind = VarKind::Cells(Shape::new(leaf, &[]).expect(&rt, "a shape"));
         let result = Returns::Value(Some(kind));
-        assert!(rt;
-            fits_variable(Direction::Input, kind, of(false, base, 0)),
-            "{leaf:?}"
-        );
-        assert!(rt;
-            fits_variable(Direction::Input, kind, of(true, base, 0)),
-            "{leaf:?}"
-        );
-        assert!(rt;
-            !fits_variable(Direction::Input, kind, of(true, base, 1)),
-            "{leaf:?}"
-        );
-        assert!(rt;
-            fits_variable(Direction::Output, kind, of(false, base, 1)),
-            "{leaf:?}"
-        );
-        assert!(rt;
-            !fits_variable(Direction::Output, kind, of(true, base, 1)),
-            "{leaf:?}"
-        );
-        assert!(rt;
-            !fits_variable(Direction::Inout, kind, of(false, base, 0)),
-            "{leaf:?}"
-        );
-        assert!(rt; fits_result(result, false, of(false, base, 0)), "{leaf:?}");
-        assert!(rt; !fits_result(result, false, of(false, base, 1)), "{leaf:?}");
-        assert!(rt; is_small(result), "{leaf:?}");
+        let fits = fits_variable(Direction::Input, kind, of(false, base, 0))
+            && fits_variable(Direction::Input, kind, of(true, base, 0))
+            && fits_variable(Direction::Output, kind, of(false, base, 1))
+            && fits_result(result, false, of(false, base, 0));
+        assert!(rt; fits && is_small(result), "{leaf:?}");
+        let other_fits = fits_variable(Direction::Input, kind, of(true, base, 1))
+            || fits_variable(Direction::Output, kind, of(true, base, 1))
+            || fits_variable(Direction::Inout, kind, of(false, base, 0))
+            || fits_result(result, false, of(false, base, 1));
+        assert!(rt; !other_fits, "{leaf:?}");
     }
 }
 
@@ -110,32 +93,19 @@ fn vectors_and_arrays_go_by_a_pointer_to_cells(rt: HostRuntime) {
     for &(leaf, array, base) in CELLS {
         let dims: &[Range] = if array { &[FOUR] } else { &[] };
         let kind = VarKind::Cells(Shape::new(leaf, dims).expect(&rt, "a shape"));
-        assert!(rt;
-            fits_variable(Direction::Input, kind, of(true, base, 1)),
-            "{leaf:?}"
-        );
-        assert!(rt;
-            fits_variable(Direction::Input, kind, of(false, base, 1)),
-            "{leaf:?}"
-        );
-        assert!(rt;
-            !fits_variable(Direction::Input, kind, of(false, base, 0)),
-            "{leaf:?}"
-        );
-        assert!(rt;
-            fits_variable(Direction::Inout, kind, of(false, base, 1)),
-            "{leaf:?}"
-        );
-        assert!(rt;
-            !fits_variable(Direction::Output, kind, of(true, base, 1)),
-            "{leaf:?}"
-        );
-        assert!(rt; !is_small(Returns::Value(Some(kind))), "{leaf:?}");
+        let fits = fits_variable(Direction::Input, kind, of(true, base, 1))
+            && fits_variable(Direction::Input, kind, of(false, base, 1))
+            && fits_variable(Direction::Inout, kind, of(false, base, 1));
+        assert!(rt; fits, "{leaf:?}");
+        let other_fits = fits_variable(Direction::Input, kind, of(false, base, 0))
+            || fits_variable(Direction::Output, kind, of(true, base, 1))
+            || is_small(Returns::Value(Some(kind)));
+        assert!(rt; !other_fits, "{leaf:?}");
     }
 }
 
 /// Texts, chandles and open arrays: formal, direction, C type, and whether it fits.
-const OTHERS: &[(FormalKind, Direction, (bool, CBase, u8), bool)] = &[
+const OTHERS: [(FormalKind, Direction, (bool, CBase, u8), bool); 12] = [
     (
         FormalKind::Sized(VarKind::Text),
         Direction::Input,
@@ -197,11 +167,10 @@ const OPEN: FormalKind = FormalKind::Open {
 
 #[test]
 fn texts_chandles_and_handles_have_their_pointers(rt: HostRuntime) {
-    for &(formal, direction, (base_const, base, stars), fits) in OTHERS {
+    for (formal, direction, (base_const, base, stars), fits) in OTHERS {
         let wanted = of(base_const, base, stars);
-        assert_eq!(rt;
-            fits_formal(direction, formal, wanted),
-            fits,
+        assert!(rt;
+            fits_formal(direction, formal, wanted) == fits,
             "{formal:?} {wanted:?}"
         );
     }
@@ -252,7 +221,7 @@ fn equal_kinds_have_equal_leaves_and_sizes(rt: HostRuntime) {
     for &(a, b, same) in LEAVES {
         let one = VarKind::Cells(Shape::new(a, &[]).expect(&rt, "a shape"));
         let other = VarKind::Cells(Shape::new(b, &[]).expect(&rt, "a shape"));
-        assert_eq!(rt; same_kind(one, other), same, "{a:?} {b:?}");
+        assert!(rt; same_kind(one, other) == same, "{a:?} {b:?}");
     }
     let falling = VarKind::Cells(Shape::new(INT, &[FOUR]).expect(&rt, "a shape"));
     let rising = Range { left: 1, right: 4 };

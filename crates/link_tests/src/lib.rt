@@ -1,4 +1,4 @@
-//! Trees of both languages with what the rules of linking say of them, and what linked files call
+//! Texts of both languages with what the rules of linking say of them, and what linked files call
 //! (IEEE 1800-2017, 35.4 and 35.5).
 #![tactic(auto)]
 
@@ -12,3 +12,5 @@ mod items;
 mod linked;
 #[cfg(test)]
 mod links;
+#[cfg(test)]
+mod read;

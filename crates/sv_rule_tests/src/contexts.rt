@@ -43,7 +43,7 @@ fn place_of(found: Option<Violation>) -> (u32, u8) {
 }
 
 /// A target, the type of a sum that is assigned to it, and what is found for the value's token 5.
-const ASSIGNED: &[(ExprType, ExprType, (u32, u8))] = &[
+const ASSIGNED: [(ExprType, ExprType, (u32, u8)); 6] = [
     (BYTE, BYTE, (0, 0)),
     (WIDE, BYTE, (9, 16)),
     (BYTE, ExprType::Text, (5, 17)),
@@ -54,7 +54,7 @@ const ASSIGNED: &[(ExprType, ExprType, (u32, u8))] = &[
 
 #[test]
 fn assignments_widen_and_need_one_kind(rt: HostRuntime) {
-    for &(target, value, place) in ASSIGNED {
+    for &(target, value, place) in ASSIGNED.iter() {
         let mut found = None;
         note_assigned(0, 5, Some(target), sum(value), &mut found);
         assert_eq!(rt; place_of(found), place, "{target:?} {value:?}");
@@ -133,7 +133,7 @@ fn arrays_fit_by_size_and_element(rt: HostRuntime) {
 }
 
 /// An assignment operator at token 3, its target and its value, a sum, and what is found.
-const COMPUTED: &[(AssignOperator, ExprType, ExprType, (u32, u8))] = &[
+const COMPUTED: [(AssignOperator, ExprType, ExprType, (u32, u8)); 5] = [
     (AssignOperator::Add, BYTE, BYTE, (0, 0)),
     (AssignOperator::Add, WIDE, BYTE, (3, 16)),
     (AssignOperator::Xor, WIDE, BYTE, (9, 16)),
@@ -143,7 +143,7 @@ const COMPUTED: &[(AssignOperator, ExprType, ExprType, (u32, u8))] = &[
 
 #[test]
 fn assignment_operators_compute(rt: HostRuntime) {
-    for &(operator, target, value, place) in COMPUTED {
+    for &(operator, target, value, place) in COMPUTED.iter() {
         let mut found = None;
         let target = Some(Operand {
             of: target,
@@ -158,7 +158,7 @@ fn assignment_operators_compute(rt: HostRuntime) {
 #[test]
 fn patterns_have_a_part_for_each_index(rt: HostRuntime) {
     let target = array(Leaf::Byte { signed: true }, [3, 0]);
-    for (parts, place) in [(4, (0, 0)), (3, (2, 30))] {
+    for &(parts, place) in [(4, (0, 0)), (3, (2, 30))].iter() {
         let mut found = None;
         note_pattern(0, 2, target, parts, &mut found);
         assert_eq!(rt; place_of(found), place, "{parts}");
@@ -178,7 +178,7 @@ const CONDITIONS: [(ExprType, bool, bool); 3] = [
 
 #[test]
 fn conditions_are_packed_or_chandles(rt: HostRuntime) {
-    for (of, condition, count) in CONDITIONS {
+    for &(of, condition, count) in CONDITIONS.iter() {
         let mut found = None;
         note_condition(0, 7, sum(of), &mut found);
         assert_eq!(rt; found.is_none(), condition, "{of:?}");
@@ -189,7 +189,7 @@ fn conditions_are_packed_or_chandles(rt: HostRuntime) {
 }
 
 /// The types of a case's expression, a sum, and of its items, and what is found at its token 1.
-const CASES: &[(ExprType, [Option<ExprType>; 2], (u32, u8))] = &[
+const CASES: [(ExprType, [Option<ExprType>; 2], (u32, u8)); 5] = [
     (BYTE, [Some(BYTE), Some(BYTE)], (0, 0)),
     (BYTE, [Some(BYTE), Some(WIDE)], (9, 16)),
     (ExprType::Text, [Some(ExprType::Text), None], (0, 0)),
@@ -206,7 +206,7 @@ fn plain(of: Option<ExprType>) -> Option<Operand> {
 
 #[test]
 fn cases_widen_all(rt: HostRuntime) {
-    for &(expression, items, place) in CASES {
+    for &(expression, items, place) in CASES.iter() {
         let mut found = None;
         let values = [sum(expression), plain(items[0]), plain(items[1])];
         note_case(0, 1, &values, &mut found);
@@ -215,7 +215,7 @@ fn cases_widen_all(rt: HostRuntime) {
 }
 
 /// A format at token 4, the types of its arguments at tokens 6 and 8, and what is found.
-const FORMATS: &[(&[u8], [Option<ExprType>; 2], (u32, u8))] = &[
+const FORMATS: [(&[u8], [Option<ExprType>; 2], (u32, u8)); 6] = [
     (b"\"%d %s\"", [Some(BYTE), Some(ExprType::Text)], (0, 0)),
     (b"\"%h %0d\"", [Some(WIDE), Some(WIDE)], (8, 16)),
     (b"\"%d %d\"", [Some(ExprType::Text), None], (4, 24)),
@@ -226,7 +226,7 @@ const FORMATS: &[(&[u8], [Option<ExprType>; 2], (u32, u8))] = &[
 
 #[test]
 fn formats_show_what_fits(rt: HostRuntime) -> Result<(), Fail> {
-    for &(bytes, types, place) in FORMATS {
+    for &(bytes, types, place) in FORMATS.iter() {
         let args = [
             Shown {
                 token: 6,

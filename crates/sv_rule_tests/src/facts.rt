@@ -1,122 +1,95 @@
-//! What names and expressions tell, by IEEE 1800-2017, 11.6 and 23.9, worked by hand.
+//! What names and expressions tell, by IEEE 1800-2017, 11.6 and 23.9, worked by hand. Tokens are
+//! counted from 0.
 
-use dpi_shape::{Leaf, Shape};
-use sqlite_items::Items;
-use std::alloc::{AllocError, Global};
+use crate::read;
+use dpi_ports::NoMemory;
+use std::alloc::Global;
 use std::rt::HostRuntime;
 use std::test::Fail;
 use sv_facts::{Fact, Meant, add_call, add_expr, meant};
 use sv_judge::Place;
-use sv_names::{Entry, Scope, Scopes, Thing};
-use sv_shapes::VarKind;
-use sv_tree::{Call, Chain, Expr, Lvalue, Name, Operand, Primary};
+use sv_names::{Entry, Scopes, Thing, function_scope, module_scope};
+use sv_tree::{Call, Expr, Function, Item, Module, Stmt};
 use sv_typing::ExprType;
 
-fn name(alloc: Global, token: u32, bytes: &[u8]) -> Result<Name, AllocError> {
-    Ok(Name {
-        token,
-        bytes: Items::from_slice(alloc, bytes)?,
-    })
+/// The place in these scopes.
+fn place_in<'s, 'n>(scopes: &'s Scopes<'n>) -> Place<'s, 'n> {
+    Place {
+        file: 0,
+        scopes,
+        subroutines: &[],
+        imports: &[],
+        in_function: false,
+    }
 }
 
-/// `v`, at token 5.
-fn value(alloc: Global) -> Result<Expr, AllocError> {
-    let first = Operand {
-        token: 5,
-        prefixes: Items::new(alloc),
-        primary: Primary::Place(Lvalue {
-            name: name(alloc, 5, b"v")?,
-            selects: Items::new(alloc),
-        }),
-    };
-    Ok(Expr {
-        token: 5,
-        chain: Chain {
-            token: 5,
-            first,
-            rest: Items::new(alloc),
-        },
-        choice: None,
-    })
-}
-
-/// `byte v;` of which the name is token 1.
-fn byte_scope<'a>(alloc: Global) -> Result<Scope<'a>, Fail> {
-    let shape = Shape::new(Leaf::Byte { signed: true }, &[]).ok_or("a shape")?;
-    let mut scope = Scope::new(alloc);
-    scope.add(
-        b"v",
-        Entry {
-            token: 1,
-            thing: Thing::Variable(Some(VarKind::Cells(shape))),
-        },
-    )?;
-    Ok(scope)
+/// What an expression in a module tells.
+fn told(alloc: Global, module: &Module, value: &Expr) -> Result<Vec<Fact>, NoMemory> {
+    let mut scopes = Scopes::new(alloc);
+    scopes.enter(module_scope(alloc, 0, module, &mut None)?)?;
+    let mut list = Vec::new(alloc);
+    add_expr(alloc, &place_in(&scopes), value, &mut list)?;
+    Ok(list)
 }
 
 #[test]
 fn an_expression_tells_its_type_and_then_its_name(rt: HostRuntime) -> Result<(), Fail> {
-    let alloc = rt.alloc();
-    let mut scopes = Scopes::new(alloc);
-    scopes.enter(byte_scope(alloc)?)?;
-    let place = Place {
-        file: 0,
-        scopes: &scopes,
-        subroutines: &[],
-        imports: &[],
-        in_function: false,
+    let file = read::file(
+        &rt,
+        rt.alloc(),
+        b"module m; byte v; initial while (v) ; endmodule",
+    )?;
+    let Some(module) = file.modules.get(0) else {
+        panic!(rt; "no module");
     };
-    let mut list = Vec::new(alloc);
-    add_expr(alloc, &place, &value(alloc)?, &mut list)?;
+    let Some(Item::Initial(_, Stmt::While(_, value, _))) = module.items.get(1) else {
+        panic!(rt; "no while");
+    };
+    let list = told(rt.alloc(), module, value)?;
     let byte = ExprType::Bits {
         width: 8,
         signed: true,
         four: false,
     };
-    let told = [Fact::Type(5, byte), Fact::Name(5, Meant::Declaration(1))];
-    assert!(rt; list.as_slice() == told.as_slice());
+    let want = [Fact::Type(9, byte), Fact::Name(9, Meant::Declaration(4))];
+    assert!(rt; list.as_slice() == want.as_slice());
     Ok(())
 }
 
-/// `r()`, at token 3, inside a function `r` at token 1 that a function `r` at token 0 is around.
+/// What a call in a function of a module tells.
+fn told_by_call(
+    alloc: Global,
+    module: &Module,
+    function: &Function,
+    call: &Call,
+) -> Result<Vec<Fact>, NoMemory> {
+    let mut scopes = Scopes::new(alloc);
+    scopes.enter(module_scope(alloc, 0, module, &mut None)?)?;
+    scopes.enter(function_scope(alloc, 0, function, &[], &mut None)?)?;
+    let mut list = Vec::new(alloc);
+    add_call(alloc, &place_in(&scopes), call, &mut list)?;
+    Ok(list)
+}
+
+/// Inside of a function, its name is its result; a call of it is one of the function.
 #[test]
 fn a_call_passes_the_result_over(rt: HostRuntime) -> Result<(), Fail> {
-    let alloc = rt.alloc();
-    let mut outer = Scope::new(alloc);
-    outer.add(
-        b"r",
-        Entry {
-            token: 0,
-            thing: Thing::Function(0),
-        },
+    let file = read::file(
+        &rt,
+        rt.alloc(),
+        b"module m; function int r; r(); endfunction endmodule",
     )?;
-    let mut inner = Scope::new(alloc);
-    inner.add(
-        b"r",
-        Entry {
-            token: 1,
-            thing: Thing::Result(None),
-        },
-    )?;
-    let mut scopes = Scopes::new(alloc);
-    scopes.enter(outer)?;
-    scopes.enter(inner)?;
-    let place = Place {
-        file: 0,
-        scopes: &scopes,
-        subroutines: &[],
-        imports: &[],
-        in_function: true,
+    let Some(module) = file.modules.get(0) else {
+        panic!(rt; "no module");
     };
-    let call = Call {
-        name: name(alloc, 3, b"r")?,
-        token: 4,
-        actuals: Items::new(alloc),
+    let Some(Item::Function(function)) = module.items.get(0) else {
+        panic!(rt; "no function");
     };
-    let mut list = Vec::new(alloc);
-    add_call(alloc, &place, &call, &mut list)?;
-    let told = [Fact::Name(3, Meant::Subroutine(0))];
-    assert!(rt; list.as_slice() == told.as_slice());
+    let Some(Stmt::Call(call)) = function.body.statements.get(0) else {
+        panic!(rt; "no call");
+    };
+    let list = told_by_call(rt.alloc(), module, function, call)?;
+    assert!(rt; list.as_slice() == [Fact::Name(7, Meant::Subroutine(5))].as_slice());
     Ok(())
 }
 

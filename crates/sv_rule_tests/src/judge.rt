@@ -1,17 +1,18 @@
 //! Actuals of formals with an open packed part, by IEEE 1800-2017, 35.5.6.1, worked by hand.
 
+use crate::read;
+use dpi_ports::NoMemory;
 use dpi_rules::Violation;
 use dpi_shape::{Leaf, Range, Shape};
-use sqlite_items::Items;
-use std::alloc::{AllocError, Global};
+use std::alloc::Global;
 use std::rt::HostRuntime;
 use std::test::Fail;
+use sv_inside::imports_of;
 use sv_judge::{Form, Passing, Place, Whole, judge_call, note_passed, other};
-use sv_names::{Entry, Scope, Scopes, Thing};
-use sv_shapes::{FormalKind, OpenDims, OpenLeaf, VarKind};
-use sv_signatures::{ImportFormal, ImportSignature, Returns};
-use sv_tree::{Call, Chain, Direction, Expr, Lvalue, Name, Operand, Primary};
-use sv_typing::{Selected, read};
+use sv_names::{Scopes, module_scope};
+use sv_shapes::{FormalKind, OpenDims, OpenLeaf};
+use sv_tree::{Call, Direction, Item, Module, Stmt};
+use sv_typing::{Selected, read as read_of};
 
 /// `bit []`
 const ANY_BITS: FormalKind = FormalKind::Open {
@@ -65,7 +66,7 @@ fn an_element_is_as_plain_as_a_variable(rt: HostRuntime) {
             formal: Some(ANY_BITS),
         };
         let actual = Whole {
-            value: read(selected),
+            value: read_of(selected),
             form: Form::Place(selected),
         };
         let mut found = None;
@@ -88,85 +89,22 @@ fn an_open_output_takes_names_alone(rt: HostRuntime) {
         2,
         5,
         Some(passing),
-        other(read(named(BITS, &[], 0))),
+        other(read_of(named(BITS, &[], 0))),
         &mut found,
     );
     assert_eq!(rt; found, at(5, 13));
 }
 
-fn name(alloc: Global, token: u32, bytes: &[u8]) -> Result<Name, AllocError> {
-    Ok(Name {
-        token,
-        bytes: Items::from_slice(alloc, bytes)?,
-    })
-}
-
-/// `f(v)`, of which `f` is token 3 and `v` token 5.
-fn call(alloc: Global) -> Result<Call, AllocError> {
-    let first = Operand {
-        token: 5,
-        prefixes: Items::new(alloc),
-        primary: Primary::Place(Lvalue {
-            name: name(alloc, 5, b"v")?,
-            selects: Items::new(alloc),
-        }),
-    };
-    let mut actuals = Items::new(alloc);
-    actuals.push(Expr {
-        token: 5,
-        chain: Chain {
-            token: 5,
-            first,
-            rest: Items::new(alloc),
-        },
-        choice: None,
-    })?;
-    Ok(Call {
-        name: name(alloc, 3, b"f")?,
-        token: 4,
-        actuals,
-    })
-}
-
-/// `import "DPI-C" function void f(input bit [] a);`
-fn import(alloc: Global) -> Result<ImportSignature, AllocError> {
-    let mut formals = Items::new(alloc);
-    formals.push(ImportFormal {
-        token: 1,
-        direction: Direction::Input,
-        kind: Some(ANY_BITS),
-    })?;
-    Ok(ImportSignature {
-        token: 0,
-        is_task: false,
-        result: Returns::Void,
-        formals,
-    })
-}
-
-#[test]
-fn a_byte_is_no_bit_with_a_range(rt: HostRuntime) -> Result<(), Fail> {
-    let alloc = rt.alloc();
-    let shape = Shape::new(BYTE, &[]).ok_or("a shape")?;
-    let mut scope = Scope::new(alloc);
-    scope.add(
-        b"v",
-        Entry {
-            token: 2,
-            thing: Thing::Variable(Some(VarKind::Cells(shape))),
-        },
-    )?;
-    scope.add(
-        b"f",
-        Entry {
-            token: 0,
-            thing: Thing::Import(0),
-        },
-    )?;
+/// Whether a call in a module has a value, and what it breaks.
+fn judged(
+    alloc: Global,
+    module: &Module,
+    call: &Call,
+) -> Result<(bool, Option<Violation>), NoMemory> {
+    let mut found = None;
     let mut scopes = Scopes::new(alloc);
-    scopes.enter(scope)?;
-    let mut imports = Items::new(alloc);
-    imports.push(import(alloc)?)?;
+    scopes.enter(module_scope(alloc, 2, module, &mut found)?)?;
+    let imports = imports_of(alloc, 2, module.items.as_slice())?;
     let place = Place {
         file: 2,
         scopes: &scopes,
@@ -174,9 +112,24 @@ fn a_byte_is_no_bit_with_a_range(rt: HostRuntime) -> Result<(), Fail> {
         imports: imports.as_slice(),
         in_function: false,
     };
-    let mut found = None;
-    let value = judge_call(alloc, &place, &call(alloc)?, true, &mut found)?;
-    assert!(rt; value.is_none());
-    assert_eq!(rt; found, at(5, 14));
+    let value = judge_call(alloc, &place, call, true, &mut found)?;
+    Ok((value.is_some(), found))
+}
+
+#[test]
+fn a_byte_is_no_bit_with_a_range(rt: HostRuntime) -> Result<(), Fail> {
+    let file = read::file(
+        &rt,
+        rt.alloc(),
+        b"module m; byte v; import \"DPI-C\" function void f(input bit [] a);
+          initial f(v); endmodule",
+    )?;
+    let Some(module) = file.modules.get(0) else {
+        panic!(rt; "no module");
+    };
+    let Some(Item::Initial(_, Stmt::Call(call))) = module.items.get(2) else {
+        panic!(rt; "no call");
+    };
+    assert_eq!(rt; judged(rt.alloc(), module, call)?, (false, at(22, 14)));
     Ok(())
 }

@@ -27,6 +27,8 @@ mod meanings;
 #[cfg(test)]
 mod names;
 #[cfg(test)]
+mod read;
+#[cfg(test)]
 mod scopes;
 #[cfg(test)]
 mod shapes;

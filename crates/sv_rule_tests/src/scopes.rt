@@ -1,44 +1,34 @@
-//! `module m; endmodule`, whose tree is built by hand.
-use dpi_ports::NoMemory;
-use sqlite_items::Items;
-use std::alloc::{AllocError, Global};
-use std::rt::HostRuntime;
-use sv_instances::modules_of;
-use sv_scopes::{Home, homes_of, listed_instances, scopes_of, variables_of};
-use sv_tree::{Module, Name, SvFile};
+//! A module with its scope.
 
-fn file_of(alloc: Global) -> Result<SvFile, AllocError> {
-    let mut modules = Items::new(alloc);
-    modules.push(Module {
-        token: 0,
-        name: Name {
-            token: 1,
-            bytes: Items::from_slice(alloc, b"m")?,
-        },
-        parentheses: false,
-        items: Items::new(alloc),
-        end: None,
-    })?;
-    Ok(SvFile { modules })
+use crate::read;
+use dpi_ports::NoMemory;
+use std::alloc::Global;
+use std::rt::HostRuntime;
+use std::test::Fail;
+use sv_instances::modules_of;
+use sv_scopes::{Home, Scope, homes_of, listed_instances, scopes_of, variables_of};
+use sv_tree::SvFile;
+
+/// The scopes of a file, whose homes these are.
+fn listed(alloc: Global, files: &[SvFile; 1], homes: &[Home]) -> Result<Vec<Scope>, NoMemory> {
+    let modules = modules_of(alloc, files)?;
+    let instances = listed_instances(alloc, 2, &modules, &mut None)?;
+    scopes_of(alloc, homes, instances.as_slice())
 }
 
 #[test]
-fn a_top_is_a_scope(rt: HostRuntime) -> Result<(), NoMemory> {
-    let alloc = rt.alloc();
-    let mut files = Vec::new(alloc);
-    files.push(file_of(alloc)?)?;
-    let homes = homes_of(alloc, &files)?;
+fn a_top_is_a_scope(rt: HostRuntime) -> Result<(), Fail> {
+    let files = [read::file(&rt, rt.alloc(), b"module m; endmodule")?];
+    let homes = homes_of(rt.alloc(), &files)?;
     let home = Home { file: 0, number: 0 };
     assert_eq!(rt; homes.first(), Some(&home));
-    let modules = modules_of(alloc, &files)?;
-    let instances = listed_instances(alloc, 2, &modules, &mut None)?;
-    let scopes = scopes_of(alloc, &homes, instances.as_slice())?;
+    let scopes = listed(rt.alloc(), &files, &homes)?;
+    let Some(scope) = scopes.first() else {
+        panic!(rt; "no scope");
+    };
     assert_eq!(rt; scopes.len(), 1);
-    for scope in scopes.iter() {
-        assert_eq!(rt; (scope.home, scope.module_number), (home, 0));
-        assert_eq!(rt; scope.name.as_slice(), b"m".as_slice());
-    }
-    let variables = variables_of(alloc, &files, &[], &scopes)?;
-    assert_eq!(rt; variables.len(), 0);
+    assert_eq!(rt; (scope.home, scope.module_number), (home, 0));
+    assert_eq!(rt; scope.name.as_slice(), b"m".as_slice());
+    assert_eq!(rt; variables_of(rt.alloc(), &files, &[], &scopes)?.len(), 0);
     Ok(())
 }

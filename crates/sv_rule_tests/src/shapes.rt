@@ -1,5 +1,6 @@
 //! Kinds of declarations, and the least violation of each that is refused.
 
+use dpi_grammar::Stop;
 use dpi_lex::sv_tokens;
 use std::alloc::Global;
 use std::process::Abort;
@@ -7,6 +8,7 @@ use std::rt::HostRuntime;
 use std::test::Fail;
 use sv_cursor::Cursor;
 use sv_shapes::{FormalKind, OpenLeaf, VarKind, formal_kind, note_formal, variable_kind};
+use sv_tree::{DataType, Dimension, ImportDimension, ImportType};
 use sv_types::{data_type, dimensions, import_dimensions, import_type};
 
 /// What a declaration comes to.
@@ -24,7 +26,7 @@ enum Told {
     Any(usize),
     /// The token and the rule of the least violation.
     Broken(u32, u8),
-    /// Nothing: the text isn't a declaration.
+    /// Neither a kind nor a violation.
     Nothing,
 }
 
@@ -47,6 +49,7 @@ const VARIABLES: &[(&[u8], Told)] = &[
     (b"bit [32:0] [32769]", Told::Broken(6, 8)),
     (b"int [2][3:1][-1:2]", Told::Cells(32, 3, 24)),
     (b"int [1][1][1][1]", Told::Broken(10, 8)),
+    (b"int [1][1][1][4'd3:0]", Told::Broken(10, 8)),
     (b"int [0]", Told::Broken(1, 8)),
     (b"int ['d4]", Told::Broken(1, 8)),
     (b"int [4:'d0]", Told::Broken(4, 8)),
@@ -72,6 +75,7 @@ const FORMALS: &[(&[u8], Told)] = &[
     (b"logic [] [][3:0]", Told::Any(2)),
     (b"int [][][]", Told::Open(1, 3)),
     (b"int [][][][]", Told::Broken(7, 8)),
+    (b"int [][][][4'd3:0]", Told::Broken(7, 8)),
     (b"int [][65536][2]", Told::Broken(6, 8)),
     (b"int [][0]", Told::Broken(3, 8)),
     (b"string []", Told::Broken(NAME, 9)),
@@ -95,43 +99,36 @@ fn open_told(leaf: OpenLeaf, dims: usize) -> Told {
     }
 }
 
-fn formal_told(kind: FormalKind) -> Told {
-    match kind {
-        FormalKind::Sized(kind) => kind_told(Some(kind)),
-        FormalKind::Open { leaf, dims } => open_told(leaf, dims.as_slice().len()),
-    }
-}
-
-fn variable(alloc: Global, tokens: &mut Cursor<'_>) -> Told {
-    let Ok(kind) = data_type(alloc, tokens) else {
-        return Told::Nothing;
-    };
-    let Ok(ranges) = dimensions(alloc, tokens) else {
-        return Told::Nothing;
-    };
+fn variable_told(kind: &DataType, ranges: &[Dimension]) -> Told {
     let mut found = None;
-    let kind = variable_kind(0, NAME, &kind, ranges.as_slice(), &mut found);
+    let kind = variable_kind(0, NAME, kind, ranges, &mut found);
     match found {
         Some(violation) if kind.is_none() => Told::Broken(violation.token, violation.rule),
         _ => kind_told(kind),
     }
 }
 
-fn formal(alloc: Global, tokens: &mut Cursor<'_>) -> Told {
-    let Ok(kind) = import_type(alloc, tokens) else {
-        return Told::Nothing;
-    };
-    let Ok(ranges) = import_dimensions(alloc, tokens) else {
-        return Told::Nothing;
-    };
+fn formal_told(kind: &ImportType, ranges: &[ImportDimension]) -> Told {
     let mut found = None;
-    note_formal(0, NAME, &kind, ranges.as_slice(), &mut found);
-    let kind = formal_kind(&kind, ranges.as_slice());
-    match (kind, found) {
-        (Some(kind), None) => formal_told(kind),
+    note_formal(0, NAME, kind, ranges, &mut found);
+    match (formal_kind(kind, ranges), found) {
+        (Some(FormalKind::Sized(kind)), None) => kind_told(Some(kind)),
+        (Some(FormalKind::Open { leaf, dims }), None) => open_told(leaf, dims.as_slice().len()),
         (None, Some(violation)) => Told::Broken(violation.token, violation.rule),
         _ => Told::Nothing,
     }
+}
+
+fn variable(alloc: Global, tokens: &mut Cursor<'_>) -> Result<Told, Stop> {
+    let kind = data_type(alloc, tokens)?;
+    let ranges = dimensions(alloc, tokens)?;
+    Ok(variable_told(&kind, ranges.as_slice()))
+}
+
+fn formal(alloc: Global, tokens: &mut Cursor<'_>) -> Result<Told, Stop> {
+    let kind = import_type(alloc, tokens)?;
+    let ranges = import_dimensions(alloc, tokens)?;
+    Ok(formal_told(&kind, ranges.as_slice()))
 }
 
 #[test]
@@ -140,7 +137,7 @@ fn variables_have_the_kind_of_their_type_and_dimensions(rt: HostRuntime) -> Resu
         assert!(rt; text.len() <= 1_048_576);
         let tokens = sv_tokens(rt.alloc(), text)?;
         let mut cursor = Cursor::new(&tokens);
-        assert_eq!(rt; variable(rt.alloc(), &mut cursor), want, "{text:?}");
+        assert_eq!(rt; variable(rt.alloc(), &mut cursor)?, want, "{text:?}");
     }
     Ok(())
 }
@@ -151,7 +148,7 @@ fn formals_of_imports_may_be_open_arrays(rt: HostRuntime) -> Result<(), Fail> {
         assert!(rt; text.len() <= 1_048_576);
         let tokens = sv_tokens(rt.alloc(), text)?;
         let mut cursor = Cursor::new(&tokens);
-        assert_eq!(rt; formal(rt.alloc(), &mut cursor), want, "{text:?}");
+        assert_eq!(rt; formal(rt.alloc(), &mut cursor)?, want, "{text:?}");
     }
     Ok(())
 }
