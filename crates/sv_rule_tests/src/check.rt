@@ -46,6 +46,7 @@ fn is_one_module(design: &Design) -> bool {
 #[test]
 fn a_module_is_a_design_of_one_scope(rt: HostRuntime) -> Result<(), Fail> {
     let files = one(&rt, rt.alloc(), b"module m; endmodule")?;
+    assert!(rt; files.len() <= 1_000);
     let design = elaborate(rt.alloc(), files)?;
     assert!(rt; is_one_module(&design));
     Ok(())

@@ -108,12 +108,18 @@ fn variable_told(kind: &DataType, ranges: &[Dimension]) -> Told {
     }
 }
 
+fn kept_told(kind: FormalKind) -> Told {
+    match kind {
+        FormalKind::Sized(kind) => kind_told(Some(kind)),
+        FormalKind::Open { leaf, dims } => open_told(leaf, dims.as_slice().len()),
+    }
+}
+
 fn formal_told(kind: &ImportType, ranges: &[ImportDimension]) -> Told {
     let mut found = None;
     note_formal(0, NAME, kind, ranges, &mut found);
     match (formal_kind(kind, ranges), found) {
-        (Some(FormalKind::Sized(kind)), None) => kind_told(Some(kind)),
-        (Some(FormalKind::Open { leaf, dims }), None) => open_told(leaf, dims.as_slice().len()),
+        (Some(kind), None) => kept_told(kind),
         (None, Some(violation)) => Told::Broken(violation.token, violation.rule),
         _ => Told::Nothing,
     }
