@@ -41,14 +41,14 @@ fn a_task_and_a_void_function_of_one_name_break_rule_5(rt: HostRuntime) {
     };
     let mut found = None;
     note_unequal_imports(rt.alloc(), &[first, other, first], &mut found).expect(&rt, "memory");
-    assert!(rt; found.is_none());
+    assert_eq!(rt; found, None);
     note_unequal_imports(rt.alloc(), &[first, other, second], &mut found).expect(&rt, "memory");
     let broken = Violation {
         file: 1,
         token: 9,
         rule: 5,
     };
-    assert!(rt; found == Some(broken));
+    assert_eq!(rt; found, Some(broken));
 }
 
 #[test]
@@ -67,12 +67,12 @@ fn a_second_export_of_a_name_breaks_rule_9(rt: HostRuntime) {
     };
     let mut found = None;
     note_unequal_exports(rt.alloc(), &[first, second], &mut found).expect(&rt, "memory");
-    assert!(rt; found.is_none());
+    assert_eq!(rt; found, None);
     note_second_exports(rt.alloc(), &[first, second], &mut found).expect(&rt, "memory");
     let broken = Violation {
         file: 2,
         token: 8,
         rule: 9,
     };
-    assert!(rt; found == Some(broken));
+    assert_eq!(rt; found, Some(broken));
 }

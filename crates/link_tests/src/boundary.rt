@@ -25,7 +25,7 @@ const INT: Leaf = Leaf::Int { signed: true };
 const FOUR: Range = Range { left: 3, right: 0 };
 
 /// The types that go by value, and what they are in C.
-const NUMBERS: &[(Leaf, CBase)] = &[
+const NUMBERS: [(Leaf, CBase); 11] = [
     (BYTE, CBase::Char),
     (BYTE, CBase::UnsignedChar),
     (Leaf::Byte { signed: false }, CBase::UnsignedChar),
@@ -41,24 +41,41 @@ const NUMBERS: &[(Leaf, CBase)] = &[
 
 #[test]
 fn numbers_go_by_value_and_come_back_by_pointer(rt: HostRuntime) {
-    for &(leaf, base) in NUMBERS {
+    for (leaf, base) in NUMBERS {
         let kind = VarKind::Cells(Shape::new(leaf, &[]).expect(&rt, "a shape"));
         let result = Returns::Value(Some(kind));
-        let fits = fits_variable(Direction::Input, kind, of(false, base, 0))
-            && fits_variable(Direction::Input, kind, of(true, base, 0))
-            && fits_variable(Direction::Output, kind, of(false, base, 1))
-            && fits_result(result, false, of(false, base, 0));
-        assert!(rt; fits && is_small(result), "{leaf:?}");
-        let other_fits = fits_variable(Direction::Input, kind, of(true, base, 1))
-            || fits_variable(Direction::Output, kind, of(true, base, 1))
-            || fits_variable(Direction::Inout, kind, of(false, base, 0))
-            || fits_result(result, false, of(false, base, 1));
-        assert!(rt; !other_fits, "{leaf:?}");
+        assert!(rt;
+            fits_variable(Direction::Input, kind, of(false, base, 0)),
+            "{leaf:?}"
+        );
+        assert!(rt;
+            fits_variable(Direction::Input, kind, of(true, base, 0)),
+            "{leaf:?}"
+        );
+        assert!(rt;
+            !fits_variable(Direction::Input, kind, of(true, base, 1)),
+            "{leaf:?}"
+        );
+        assert!(rt;
+            fits_variable(Direction::Output, kind, of(false, base, 1)),
+            "{leaf:?}"
+        );
+        assert!(rt;
+            !fits_variable(Direction::Output, kind, of(true, base, 1)),
+            "{leaf:?}"
+        );
+        assert!(rt;
+            !fits_variable(Direction::Inout, kind, of(false, base, 0)),
+            "{leaf:?}"
+        );
+        assert!(rt; fits_result(result, false, of(false, base, 0)), "{leaf:?}");
+        assert!(rt; !fits_result(result, false, of(false, base, 1)), "{leaf:?}");
+        assert!(rt; is_small(result), "{leaf:?}");
     }
 }
 
 /// The cells of vectors and arrays: leaf, whether there is a dimension, and the C type of a cell.
-const CELLS: &[(Leaf, bool, CBase)] = &[
+const CELLS: [(Leaf, bool, CBase); 6] = [
     (
         Leaf::BitVec {
             range: FOUR,
@@ -90,17 +107,30 @@ const CELLS: &[(Leaf, bool, CBase)] = &[
 
 #[test]
 fn vectors_and_arrays_go_by_a_pointer_to_cells(rt: HostRuntime) {
-    for &(leaf, array, base) in CELLS {
+    for (leaf, array, base) in CELLS {
         let dims: &[Range] = if array { &[FOUR] } else { &[] };
         let kind = VarKind::Cells(Shape::new(leaf, dims).expect(&rt, "a shape"));
-        let fits = fits_variable(Direction::Input, kind, of(true, base, 1))
-            && fits_variable(Direction::Input, kind, of(false, base, 1))
-            && fits_variable(Direction::Inout, kind, of(false, base, 1));
-        assert!(rt; fits, "{leaf:?}");
-        let other_fits = fits_variable(Direction::Input, kind, of(false, base, 0))
-            || fits_variable(Direction::Output, kind, of(true, base, 1))
-            || is_small(Returns::Value(Some(kind)));
-        assert!(rt; !other_fits, "{leaf:?}");
+        assert!(rt;
+            fits_variable(Direction::Input, kind, of(true, base, 1)),
+            "{leaf:?}"
+        );
+        assert!(rt;
+            fits_variable(Direction::Input, kind, of(false, base, 1)),
+            "{leaf:?}"
+        );
+        assert!(rt;
+            !fits_variable(Direction::Input, kind, of(false, base, 0)),
+            "{leaf:?}"
+        );
+        assert!(rt;
+            fits_variable(Direction::Inout, kind, of(false, base, 1)),
+            "{leaf:?}"
+        );
+        assert!(rt;
+            !fits_variable(Direction::Output, kind, of(true, base, 1)),
+            "{leaf:?}"
+        );
+        assert!(rt; !is_small(Returns::Value(Some(kind))), "{leaf:?}");
     }
 }
 
@@ -169,8 +199,9 @@ const OPEN: FormalKind = FormalKind::Open {
 fn texts_chandles_and_handles_have_their_pointers(rt: HostRuntime) {
     for (formal, direction, (base_const, base, stars), fits) in OTHERS {
         let wanted = of(base_const, base, stars);
-        assert!(rt;
-            fits_formal(direction, formal, wanted) == fits,
+        assert_eq!(rt;
+            fits_formal(direction, formal, wanted),
+            fits,
             "{formal:?} {wanted:?}"
         );
     }
@@ -203,7 +234,7 @@ const SINGLE: Leaf = Leaf::BitVec {
 };
 
 /// Two leaf types, and whether they are equal in signatures (IEEE 1800-2017, 35.5.4).
-const LEAVES: &[(Leaf, Leaf, bool)] = &[
+const LEAVES: [(Leaf, Leaf, bool); 6] = [
     (WORD, SHIFTED, true),
     (WORD, WIDER, false),
     (WORD, Leaf::Byte { signed: false }, false),
@@ -218,10 +249,10 @@ const LEAVES: &[(Leaf, Leaf, bool)] = &[
 
 #[test]
 fn equal_kinds_have_equal_leaves_and_sizes(rt: HostRuntime) {
-    for &(a, b, same) in LEAVES {
+    for (a, b, same) in LEAVES {
         let one = VarKind::Cells(Shape::new(a, &[]).expect(&rt, "a shape"));
         let other = VarKind::Cells(Shape::new(b, &[]).expect(&rt, "a shape"));
-        assert!(rt; same_kind(one, other) == same, "{a:?} {b:?}");
+        assert_eq!(rt; same_kind(one, other), same, "{a:?} {b:?}");
     }
     let falling = VarKind::Cells(Shape::new(INT, &[FOUR]).expect(&rt, "a shape"));
     let rising = Range { left: 1, right: 4 };

@@ -1,11 +1,13 @@
-//! Names that no function of C has, and modules of one export.
-use crate::read;
+//! Names that no function of C has, and one export built by hand.
 use dpi_items::{is_taken, note_export};
 use dpi_rules::Violation;
-use sv_tree::{Export, Item, SvFile};
+use sqlite_items::Items;
+use std::alloc::{AllocError, Global};
+use std::rt::HostRuntime;
+use sv_tree::{Export, Name, Text};
 
 /// Names, and whether they are a keyword, a type name, `NULL`, `printf` or of `svdpi.h`.
-const NAMES: &[(&[u8], bool)] = &[
+const NAMES: [(&[u8], bool); 8] = [
     (b"int", true),
     (b"svLogicVecVal", true),
     (b"NULL", true),
@@ -18,49 +20,51 @@ const NAMES: &[(&[u8], bool)] = &[
 
 #[test]
 fn names_of_svdpi_and_keywords_are_taken(rt: HostRuntime) {
-    for &(name, taken) in NAMES {
-        assert!(rt; is_taken(name) == taken, "{name:?}");
+    for (name, taken) in NAMES {
+        assert_eq!(rt; is_taken(name), taken, "{name:?}");
     }
 }
 
-/// Modules of one export, with the token and the rule of what it breaks.
-const EXPORTS: &[(&[u8], Option<(u32, u8)>)] = &[
-    (
-        b"module m; export \"DPI-C\" g = function f; endmodule",
-        None,
-    ),
-    (
-        b"module m; export \"DPI-C\" short = function f; endmodule",
-        Some((8, 14)),
-    ),
-    (
-        b"module m; export \"DPI\" g = function f; endmodule",
-        Some((4, 1)),
-    ),
-];
-
-fn first_export(tree: &SvFile) -> Option<&Export> {
-    match tree.modules.get(0)?.items.get(0)? {
-        Item::Export(export) => Some(export),
-        _ => None,
-    }
+/// `export "DPI-C" c_name = function f;`
+fn exported(alloc: Global, string: &[u8], c_name: &[u8]) -> Result<Export, AllocError> {
+    Ok(Export {
+        token: 0,
+        text: Text {
+            token: 1,
+            bytes: Items::from_slice(alloc, string)?,
+        },
+        c_name: Some(Name {
+            token: 2,
+            bytes: Items::from_slice(alloc, c_name)?,
+        }),
+        task: false,
+        name: Name {
+            token: 5,
+            bytes: Items::from_slice(alloc, b"f")?,
+        },
+    })
 }
 
 #[test]
 fn an_export_breaks_rule_14_at_its_name(rt: HostRuntime) {
-    for &(text, place) in EXPORTS {
-        let tree = read::sv(&rt, rt.alloc(), text);
-        let export = first_export(&tree).expect(&rt, "an export");
-        let mut found = None;
-        note_export(3, export, &mut found);
-        let broken = match place {
-            Some((token, rule)) => Some(Violation {
-                file: 3,
-                token,
-                rule,
-            }),
-            None => None,
-        };
-        assert!(rt; found == broken, "{text:?}");
-    }
+    let mut found = None;
+    let export = exported(rt.alloc(), b"\"DPI-C\"", b"g").expect(&rt, "memory is ample");
+    note_export(3, &export, &mut found);
+    assert_eq!(rt; found, None);
+    let export = exported(rt.alloc(), b"\"DPI-C\"", b"short").expect(&rt, "memory is ample");
+    note_export(3, &export, &mut found);
+    let broken = Violation {
+        file: 3,
+        token: 5,
+        rule: 14,
+    };
+    assert_eq!(rt; found, Some(broken));
+    let export = exported(rt.alloc(), b"\"DPI\"", b"g").expect(&rt, "memory is ample");
+    note_export(3, &export, &mut found);
+    let broken = Violation {
+        file: 3,
+        token: 1,
+        rule: 1,
+    };
+    assert_eq!(rt; found, Some(broken));
 }

@@ -1,4 +1,4 @@
-//! Texts of both languages with what the rules of linking say of them, and what linked files call
+//! Trees of both languages with what the rules of linking say of them, and what linked files call
 //! (IEEE 1800-2017, 35.4 and 35.5).
 #![tactic(auto)]
 
@@ -12,5 +12,3 @@ mod items;
 mod linked;
 #[cfg(test)]
 mod links;
-#[cfg(test)]
-mod read;
